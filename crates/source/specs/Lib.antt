@@ -1,0 +1,3 @@
+pub mod Laying
+pub mod Lawful
+pub mod Refusals
