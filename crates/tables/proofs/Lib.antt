@@ -1,0 +1,4 @@
+mod Cutting
+mod Looking
+mod Checking
+mod Telling
