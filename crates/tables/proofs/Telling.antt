@@ -9,13 +9,14 @@ use lib.Dec.{ltb}
 use lib.ListN.{length, getD, take, length-append}
 use Rattle.std.proofs.shelf.Equals.{sameBytes-decides}
 use Rattle.std.proofs.shelf.Lists.{getD-append-left, getD-at, take-at}
-use Rattle.std.proofs.shelf.Tests.{and-from, and-parts, cases-bool, cases-lt, cond-true, cond-false, le-ltb, ltb-true, ltb-false, not-true, not-from-false}
+use Rattle.std.proofs.shelf.Tests.{and-from, and-parts, cases-bool, cases-lt, cond-true, cond-false, le-ltb, lt-ltb, ltb-true, ltb-false, not-true, not-from-false}
 use Rattle.std.specs.Options.{isSome, mapped}
 use Rattle.std.specs.shelf.Text.{sameBytes}
 use Rattle.std.specs.declared.option.Option.{Option}
 use Rattle.std.specs.declared.option.Option.the-variants.{Some, None}
 use Rattle.std.specs.Results.{isErr}
 use Rattle.std.specs.declared.result.Result.{Result}
+use Rattle.std.specs.declared.result.Result.the-variants.{Err}
 use Rattle.source.specs.declared.error.SourceError.{SourceError}
 use Rattle.tables.specs.declared.rows.BadRow.{BadRow}
 use Rattle.tables.specs.Meaning.{AllGood, Checked, FirstBad, Good, LawfulTable, Made, Searched, Tells, row-at}
@@ -165,6 +166,9 @@ module _ (f : Format) where
         → verdict refusal (mapped at o) ≡ verdict refusal (table-bad f most top at bytes)
     says refusal o h e =
         ap (λ p. verdict refusal (mapped at p)) e ∙ sym (ap (verdict refusal) (cond-false _ _ _ (le-ltb most (length bytes) h)))
+
+    pub says-long : (refusal : ℕ → SourceError) → most < length bytes → Err (refusal top) ≡ verdict refusal (table-bad f most top at bytes)
+    says-long refusal h = sym (ap (verdict refusal) (cond-true _ _ _ (lt-ltb most (length bytes) h)))
 
     lawful-none : LawfulTable f most bytes → (o : Option ℕ) → Checked f most top at bytes o → isSome o ≡ false
     lawful-none l None c = refl

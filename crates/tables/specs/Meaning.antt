@@ -1,10 +1,10 @@
 -- What a lawful table is and what it means, by its rows.
 use mathlib.Core.Path.{_≡_}
 use mathlib.Core.Bool.{true}
-use mathlib.Core.List.{List, []}
+use mathlib.Core.List.{List, [], _++_}
 use mathlib.Core.Logic.{_⊎_}
 use Prim.Native.Nat.{ℕ, _<_, _≤_}
-use lib.ListN.{length, getD, take}
+use lib.ListN.{length, getD, take, drop}
 use Rattle.std.specs.declared.option.Option.{Option}
 use Rattle.std.specs.declared.option.Option.the-variants.{Some, None}
 use Rattle.tables.specs.declared.rows.BadRow.{BadRow}
@@ -12,6 +12,14 @@ use Rattle.tables.specs.Rows.{Format, flat, meaning, rows}
 
 abbrev pub row-at : List (List ℕ) → ℕ → List ℕ
 row-at rs k = getD rs k []
+
+-- Bytes fall into rows: joined, with what is left behind them, they are the bytes; nothing that is left is a row;
+-- and each row is the first of the bytes from its start on.
+pub record Falls (f : Format) (bytes : List ℕ) (rs : List (List ℕ)) : Type 0 where
+  pub left : List ℕ
+  pub joined : flat rs ++ left ≡ bytes
+  pub ended : f .next left ≡ None
+  pub each : (k : ℕ) → k < length rs → f .next (flat (drop k rs) ++ left) ≡ Some (row-at rs k)
 
 -- Row k may stand where it does: it is sound, and no row before it has its name.
 pub record Good (f : Format) (rs : List (List ℕ)) (k : ℕ) : Type 0 where

@@ -5,7 +5,7 @@ ghost use Rattle.source.specs.declared.error.SourceError.the-variants.{BadBlock
 ghost use Rattle.tables.specs.BlockLaws.{block-format-laws};
 ghost use Rattle.tables.specs.Blocks.{block-bad, block-format};
 ghost use Rattle.tables.specs.Formats.{table-laws};
-ghost use Rattle.tables.specs.Meaning.{Checked, Made};
+ghost use Rattle.tables.specs.Meaning.{Checked, Falls, Made};
 ghost use Rattle.tables.specs.Rows.{all-sound, meaning, rows, usable, verdict};
 
 use crate::rows::RowFormat;
@@ -60,6 +60,7 @@ impl RowFormat for Entries as EntryFormat {
 // Whether the bytes are a lawful block; else the start of its first bad entry, or 16384 where it is too long.
 pub fn check_block(bytes: &[u8]) -> Result<(), SourceError>
     ensures value { λ r. ⌜ r ≡ verdict BadBlock (block-bad (now (bytes .entry))) ⌝ }
+    ensures rows { λ _. ⌜ Falls block-format (now (bytes .entry)) (rows block-format (now (bytes .entry))) ⌝ }
     ensures tells { λ _. ⌜ Checked block-format 16384 16384 (λ bad. bad .start) (now (bytes .entry)) (block-bad (now (bytes .entry))) ⌝ }
 {
     if bytes.len() > BLOCK_MAX {

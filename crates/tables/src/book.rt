@@ -5,7 +5,7 @@ ghost use Rattle.source.specs.declared.error.SourceError.the-variants.{BadBook}
 ghost use Rattle.tables.specs.BookLaws.{book-format-laws};
 ghost use Rattle.tables.specs.Books.{book-bad, book-format};
 ghost use Rattle.tables.specs.Formats.{table-laws};
-ghost use Rattle.tables.specs.Meaning.{Checked, Made};
+ghost use Rattle.tables.specs.Meaning.{Checked, Falls, Made};
 ghost use Rattle.tables.specs.Rows.{all-sound, meaning, rows, usable, verdict};
 
 use crate::rows::RowFormat;
@@ -82,6 +82,7 @@ impl RowFormat for Records as RecordFormat {
 // Whether the bytes are a lawful book; else the number of its first bad record, or 256 where it is too long.
 pub fn check_book(bytes: &[u8]) -> Result<(), SourceError>
     ensures value { λ r. ⌜ r ≡ verdict BadBook (book-bad (now (bytes .entry))) ⌝ }
+    ensures rows { λ _. ⌜ Falls book-format (now (bytes .entry)) (rows book-format (now (bytes .entry))) ⌝ }
     ensures tells { λ _. ⌜ Checked book-format 65536 256 (λ bad. bad .index) (now (bytes .entry)) (book-bad (now (bytes .entry))) ⌝ }
 {
     if bytes.len() > BOOK_MAX {
