@@ -35,12 +35,33 @@ fn line(rt: &impl Print, counts: Counts, step: &str, page: &str) -> io::Result<(
 }
 
 pub fn heading(rt: &impl Print) -> io::Result<()> {
-    println!(rt, "{:>8}{:>8}{:>8}{:>8}{:>8}  {:<44}  page", "read", "asked", "written", "zero", "work", "step")
+    println!(
+        rt,
+        "{:>8}{:>8}{:>8}{:>8}{:>8}  {:<44}  page",
+        "read", "asked", "written", "zero", "work", "step"
+    )
 }
 
 // The check of a source of `read` bytes.
-pub fn checked(rt: &impl Print, step: &str, read: usize, verdict: Result<(), SourceError>, page: &str) -> io::Result<()> {
-    line(rt, Counts { read: Some(read), asked: None, written: None, zero: None, work: None }, step, page)?;
+pub fn checked(
+    rt: &impl Print,
+    step: &str,
+    read: usize,
+    verdict: Result<(), SourceError>,
+    page: &str,
+) -> io::Result<()> {
+    line(
+        rt,
+        Counts {
+            read: Some(read),
+            asked: None,
+            written: None,
+            zero: None,
+            work: None,
+        },
+        step,
+        page,
+    )?;
     match verdict {
         Ok(()) => println!(rt, "{:42}lawful", ""),
         Err(error) => println!(rt, "{:42}refused: {error:?}", ""),
@@ -48,11 +69,23 @@ pub fn checked(rt: &impl Print, step: &str, read: usize, verdict: Result<(), Sou
 }
 
 // The value of a property, asked of any source and laid into an area.
-pub fn delivered<S: PropertySource>(rt: &impl Print, step: &str, source: &S, name: &[u8], typed: &[u8]) -> io::Result<()> {
+pub fn delivered<S: PropertySource>(
+    rt: &impl Print,
+    step: &str,
+    source: &S,
+    name: &[u8],
+    typed: &[u8],
+) -> io::Result<()> {
     let mut area = [0u8; AREA];
     let asked = fetch_value(source, name, &mut area);
     let end = asked.unwrap_or(0).min(AREA);
-    let counts = Counts { read: Some(name.len()), asked, written: Some(end), zero: Some(AREA - end), work: None };
+    let counts = Counts {
+        read: Some(name.len()),
+        asked,
+        written: Some(end),
+        zero: Some(AREA - end),
+        work: None,
+    };
     line(rt, counts, step, "docs/SOURCES.md, Questions")?;
     arrived(rt, asked.is_some(), &area[0..end], typed)
 }

@@ -3,7 +3,6 @@ ghost use lib.ListN.{length};
 ghost use Rattle.std.specs.declared.option.Option.the-variants.{Some};
 ghost use Rattle.std.specs.Options.{mapped};
 ghost use Rattle.source.specs.Laying.{fetched, laid};
-
 use crate::source::PropertySource;
 
 // Lays as much of the value as fits at the front of the area.

@@ -22,7 +22,15 @@ fn entry(heap: Global, name_len: usize, value_len: usize) -> Result<Vec<u8>, All
 
 #[test]
 fn entries() -> Result<(), Fail> {
-    let lawful: [&[u8]; 7] = [b"", b"\0\0", b"A=1\0", b"A=\0", b"A==\0", b"A=1\0B=2\0", b"A=1\0\0\0"];
+    let lawful: [&[u8]; 7] = [
+        b"",
+        b"\0\0",
+        b"A=1\0",
+        b"A=\0",
+        b"A==\0",
+        b"A=1\0B=2\0",
+        b"A=1\0\0\0",
+    ];
     for bytes in lawful {
         check_eq(check_block(bytes), Ok(()))?;
     }
@@ -48,7 +56,14 @@ fn entries() -> Result<(), Fail> {
 
 #[test]
 fn lengths_of_names_and_values(rt: LibcRuntime) -> Result<(), Fail> {
-    let cases = [(1, 0, true), (63, 0, true), (64, 0, false), (1, 1024, true), (1, 1025, false), (63, 1024, true)];
+    let cases = [
+        (1, 0, true),
+        (63, 0, true),
+        (64, 0, false),
+        (1, 1024, true),
+        (1, 1025, false),
+        (63, 1024, true),
+    ];
     for (name_len, value_len, lawful) in cases {
         let bytes = entry(rt.alloc(), name_len, value_len)?;
         check_eq(check_block(&bytes).is_ok(), lawful)?;
@@ -62,7 +77,11 @@ fn lengths_of_names_and_values(rt: LibcRuntime) -> Result<(), Fail> {
 
 #[test]
 fn lengths_of_blocks(rt: LibcRuntime) -> Result<(), Fail> {
-    let cases = [(16383, Ok(())), (16384, Ok(())), (16385, Err(SourceError::BadBlock(16384)))];
+    let cases = [
+        (16383, Ok(())),
+        (16384, Ok(())),
+        (16385, Err(SourceError::BadBlock(16384))),
+    ];
     for (len, verdict) in cases {
         let mut bytes = entry(rt.alloc(), 2, 3)?;
         for _ in bytes.len()..len {

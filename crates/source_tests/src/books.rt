@@ -84,7 +84,10 @@ fn lengths_of_names_and_values(rt: LibcRuntime) -> Result<(), Fail> {
         let mut book = Vec::new(rt.alloc());
         push_record(&mut book, &name, &value)?;
         let mut area = [7u8; 200];
-        check_eq(fetch_value(&Book::new(&book), &name, &mut area), Some(value_len))?;
+        check_eq(
+            fetch_value(&Book::new(&book), &name, &mut area),
+            Some(value_len),
+        )?;
         check_eq(area[199], 0)?;
         check_eq(fetch_value(&Book::new(&book), b"NN", &mut area), None)?;
     }
@@ -93,7 +96,11 @@ fn lengths_of_names_and_values(rt: LibcRuntime) -> Result<(), Fail> {
 
 #[test]
 fn numbers_of_records(rt: LibcRuntime) -> Result<(), Fail> {
-    for (n, verdict) in [(0, Ok(())), (256, Ok(())), (257, Err(SourceError::BadBook(256)))] {
+    for (n, verdict) in [
+        (0, Ok(())),
+        (256, Ok(())),
+        (257, Err(SourceError::BadBook(256))),
+    ] {
         let book = numbered(rt.alloc(), n)?;
         check_eq(check_book(&book), verdict)?;
     }
@@ -110,7 +117,10 @@ fn first_bad_records(rt: LibcRuntime) -> Result<(), Fail> {
     check_eq(check_book(&book), Err(SourceError::BadBook(3)))?;
     for (len, bad) in [(1, 0), (255, 0), (257, 1), (767, 2)] {
         let short = numbered(rt.alloc(), 3)?;
-        check_eq(check_book(short.get(0..len).unwrap_or(&[])), Err(SourceError::BadBook(bad)))?;
+        check_eq(
+            check_book(short.get(0..len).unwrap_or(&[])),
+            Err(SourceError::BadBook(bad)),
+        )?;
     }
     let mut area = [7u8; 2];
     check_eq(fetch_value(&Book::new(&book), b"aa", &mut area), None)?;

@@ -14,12 +14,26 @@ use text::is_utf8;
 
 #[test]
 fn faults_of_utf8() -> Result<(), Fail> {
-    let lawful: [&[u8]; 5] = [b"", b"a$\x7f", b"\xc2\x80", b"\xe2\x84\xaa", b"\xf4\x8f\xbf\xbf"];
+    let lawful: [&[u8]; 5] = [
+        b"",
+        b"a$\x7f",
+        b"\xc2\x80",
+        b"\xe2\x84\xaa",
+        b"\xf4\x8f\xbf\xbf",
+    ];
     for bytes in lawful {
         check(is_utf8(bytes))?;
     }
     let unlawful: [&[u8]; 9] = [
-        b"\x80", b"\xc1\x81", b"\xc3", b"\xe0\x80\x80", b"\xed\xa0\x80", b"\xe2\x84", b"\xf0\x80\x80\x80", b"\xf4\x90\x80\x80", b"\xff",
+        b"\x80",
+        b"\xc1\x81",
+        b"\xc3",
+        b"\xe0\x80\x80",
+        b"\xed\xa0\x80",
+        b"\xe2\x84",
+        b"\xf0\x80\x80\x80",
+        b"\xf4\x90\x80\x80",
+        b"\xff",
     ];
     for bytes in unlawful {
         check(!is_utf8(bytes))?;
@@ -40,12 +54,27 @@ fn stems() -> Result<(), Fail> {
 fn layers_over_layers() -> Result<(), Fail> {
     let block = Block::new(b"app.C=12\0C=7\0");
     let mut area = [9u8; 3];
-    check_eq(fetch_value(&Stem::new(b".", Stem::new(b"app", block)), b"C", &mut area), Some(2))?;
+    check_eq(
+        fetch_value(&Stem::new(b".", Stem::new(b"app", block)), b"C", &mut area),
+        Some(2),
+    )?;
     check_eq(area, [b'1', b'2', 0])?;
-    check_eq(fetch_value(&Stem::new(b"app", Stem::new(b".", block)), b"C", &mut area), None)?;
-    check_eq(fetch_value(&Stem::new(b"", block), b"C", &mut area), Some(1))?;
-    check_eq(fetch_value(&Stem::new(b"\xff", block), b"C", &mut area), None)?;
-    check_eq(fetch_value(&Stem::new(b"app", Empty), b".C", &mut area), None)?;
+    check_eq(
+        fetch_value(&Stem::new(b"app", Stem::new(b".", block)), b"C", &mut area),
+        None,
+    )?;
+    check_eq(
+        fetch_value(&Stem::new(b"", block), b"C", &mut area),
+        Some(1),
+    )?;
+    check_eq(
+        fetch_value(&Stem::new(b"\xff", block), b"C", &mut area),
+        None,
+    )?;
+    check_eq(
+        fetch_value(&Stem::new(b"app", Empty), b".C", &mut area),
+        None,
+    )?;
     check_eq(area, [0, 0, 0])
 }
 
@@ -58,7 +87,13 @@ fn areas_shorter_than_the_value() -> Result<(), Fail> {
             check_eq(fetch_value(&block, b"V", part), Some(5))?;
         }
         for (i, byte) in area.iter().enumerate() {
-            let want = if i >= len { 9 } else if i >= 5 { 0 } else { b'1' + i as u8 };
+            let want = if i >= len {
+                9
+            } else if i >= 5 {
+                0
+            } else {
+                b'1' + i as u8
+            };
             check_eq(*byte, want)?;
         }
     }

@@ -49,7 +49,7 @@ pub stem-laws : {S T : Type 0} {means : S → List ℕ → Option (List ℕ)} �
     → Lawful (λ (t : T) name. under (lawful t) (stem t) (means (below t)) name)
 stem-laws {means = means} laws lawful stem below = record {
   long = λ t n h.
-    let over : 63 < length (stem t ++ n) = simp length-append (omega arith) in
-    too-long (lawful t) (stem t) n (means (below t)) (laws .long (below t)) over;
+      let over : 63 < length (stem t ++ n) = simp length-append (omega arith) in
+      too-long (lawful t) (stem t) n (means (below t)) (laws .long (below t)) over;
   short = λ t n v e. laws .short (below t) (stem t ++ n) v (set-below (lawful t) _ v e);
 }

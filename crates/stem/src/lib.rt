@@ -6,7 +6,6 @@ ghost use Prim.Native.Nat.{ℕ, _≤_};
 ghost use lib.ListN.{length};
 ghost use Rattle.std.specs.Options.{mapped};
 ghost use Rattle.stem.specs.Stems.{name-below, stem-laws, stem-lawful, stem-verdict, under};
-
 use source::error::SourceError;
 use source::source::NAME_MAX;
 use source::source::PropertySource;
@@ -44,9 +43,17 @@ impl<'a, S: PropertySource> Stem<'a, S> {
         ensures means { λ r. ⌜ ((name : List ℕ) → under (r .lawful) (r .stem .now) (S·PropertySource .means (r .below)) name ≡ under (stem-lawful (now (stem .entry))) (now (stem .entry)) (S·PropertySource .means below) name) ⌝ }
     {
         if check_stem(stem).is_err() {
-            return Stem { stem: &[], lawful: false, below };
+            return Stem {
+                stem: &[],
+                lawful: false,
+                below,
+            };
         }
-        Stem { stem, lawful: true, below }
+        Stem {
+            stem,
+            lawful: true,
+            below,
+        }
     }
 
     // Stem and name joined; None where the name is unset whatever stands below.

@@ -36,8 +36,8 @@ module _ {f : Format} (laws : FormatLaws f) where
   cut-same (suc m) (suc n) bs hm hn = go (f .next bs) refl (λ r l k. cut-same m n (drop (length r) bs) l k)
     where
       go : (o : Option (List ℕ)) → o ≡ f .next bs
-         → ((r : List ℕ) → length (drop (length r) bs) ≤ m → length (drop (length r) bs) ≤ n → cut f m (drop (length r) bs) ≡ cut f n (drop (length r) bs))
-         → listed o (λ r. cut f m (drop (length r) bs)) ≡ listed o (λ r. cut f n (drop (length r) bs))
+          → ((r : List ℕ) → length (drop (length r) bs) ≤ m → length (drop (length r) bs) ≤ n → cut f m (drop (length r) bs) ≡ cut f n (drop (length r) bs))
+          → listed o (λ r. cut f m (drop (length r) bs)) ≡ listed o (λ r. cut f n (drop (length r) bs))
       go None h rec = refl
       go (Some r) h rec =
           let t = laws .front r bs h in
@@ -73,18 +73,18 @@ module _ {f : Format} (laws : FormatLaws f) where
   none-falls : (bs : List ℕ) → None ≡ f .next bs → Falls f bs (rows f bs)
   none-falls bs h =
       subst (Falls f bs) (sym (rows-none bs h))
-        (record { left = bs; joined = refl; ended = sym h; each = λ k l. absurd (omega arith) })
+      (record { left = bs; joined = refl; ended = sym h; each = λ k l. absurd (omega arith) })
 
   more-falls : (r bs : List ℕ) → Some r ≡ f .next bs → Falls f (drop (length r) bs) (rows f (drop (length r) bs)) → Falls f bs (rows f bs)
   more-falls r bs h c =
       let rs = rows f (drop (length r) bs) in
       let whole : (r ++ flat rs) ++ c .left ≡ bs
-            = append-assoc r (flat rs) (c .left) ∙ ap (λ q. r ++ q) (c .joined) ∙ ap (λ q. q ++ drop (length r) bs) (sym (laws .front r bs h .is)) ∙ take-append-drop (length r) bs in
+      = append-assoc r (flat rs) (c .left) ∙ ap (λ q. r ++ q) (c .joined) ∙ ap (λ q. q ++ drop (length r) bs) (sym (laws .front r bs h .is)) ∙ take-append-drop (length r) bs in
       subst (Falls f bs) (sym (rows-more r bs h)) (record { left = c .left; joined = whole; ended = c .ended; each = go c whole h })
     where
       go : (c : Falls f (drop (length r) bs) (rows f (drop (length r) bs))) → (r ++ flat (rows f (drop (length r) bs))) ++ c .left ≡ bs → Some r ≡ f .next bs
-         → (k : ℕ) → k < suc (length (rows f (drop (length r) bs)))
-         → f .next (flat (drop k (r ∷ rows f (drop (length r) bs))) ++ c .left) ≡ Some (row-at (r ∷ rows f (drop (length r) bs)) k)
+          → (k : ℕ) → k < suc (length (rows f (drop (length r) bs)))
+          → f .next (flat (drop k (r ∷ rows f (drop (length r) bs))) ++ c .left) ≡ Some (row-at (r ∷ rows f (drop (length r) bs)) k)
       go c whole h zero l = ap (f .next) whole ∙ sym h
       go c whole h (suc k) l = c .each k (omega arith)
 

@@ -9,31 +9,22 @@ use lib.Dec.{ltb}
 use lib.ListN.{length, getD, take, length-append}
 use Rattle.std.proofs.shelf.Equals.{sameBytes-decides}
 use Rattle.std.proofs.shelf.Lists.{getD-append-left, getD-at, take-at}
-use Rattle.std.proofs.shelf.Tests.{and-from, and-parts, cases-bool, cases-lt, cond-true, cond-false, le-ltb, lt-ltb, ltb-true, ltb-false, not-true, not-from-false}
-use Rattle.std.specs.Options.{isSome, mapped}
+use Rattle.std.proofs.shelf.Tests.{and-from, and-parts, cases-bool, cases-lt, cond-true, cond-false, ltb-true, ltb-false, not-true, not-from-false}
+use Rattle.std.specs.Options.{isSome}
 use Rattle.std.specs.shelf.Text.{sameBytes}
 use Rattle.std.specs.declared.option.Option.{Option}
 use Rattle.std.specs.declared.option.Option.the-variants.{Some, None}
-use Rattle.std.specs.Results.{isErr}
-use Rattle.std.specs.declared.result.Result.{Result}
-use Rattle.std.specs.declared.result.Result.the-variants.{Err}
-use Rattle.source.specs.declared.error.SourceError.{SourceError}
 use Rattle.tables.specs.declared.rows.BadRow.{BadRow}
 use Rattle.tables.specs.Meaning.{AllGood, Checked, FirstBad, Good, LawfulTable, Made, Searched, Tells, row-at}
-use Rattle.tables.specs.Rows.{Format, all-sound, bad-behind, bad-row, flat, fresh, lookup, meaning, rows, table-bad, usable, verdict}
+use Rattle.tables.specs.Rows.{Format, all-sound, bad-behind, bad-row, flat, fresh, lookup, meaning, rows, table-bad, usable}
 use Rattle.tables.proofs.Cutting.{rows-nil}
 
 differs : (xs ys : List ℕ) → (xs ≡ ys → ⊥) → sameBytes xs ys ≡ false
 differs xs ys n =
     ⊎-elim
-        (λ (t : sameBytes xs ys ≡ true). absurd (n (sameBytes-decides xs ys .0 t)))
-        (λ (e : sameBytes xs ys ≡ false). e)
-        (cases-bool (sameBytes xs ys))
-
--- whether a check refused tells whether it found something
-refused : (refusal : ℕ → SourceError) (o : Option ℕ) (r : Result (Unit {0}) SourceError) (t : Bool) → r ≡ verdict refusal o → t ≡ isErr r → isSome o ≡ t
-refused refusal None r t e h = sym (h ∙ ap isErr e)
-refused refusal (Some n) r t e h = sym (h ∙ ap isErr e)
+    (λ (t : sameBytes xs ys ≡ true). absurd (n (sameBytes-decides xs ys .0 t)))
+    (λ (e : sameBytes xs ys ≡ false). e)
+    (cases-bool (sameBytes xs ys))
 
 module _ (f : Format) where
   -- the first row of a name gives its value
@@ -52,8 +43,8 @@ module _ (f : Format) where
   found-where (r ∷ rs) name value e = go (sameBytes (f .name r) name) refl (found-where rs name value)
     where
       go : (t : Bool) → t ≡ sameBytes (f .name r) name
-         → (lookup f rs name ≡ Some value → (k : ℕ) × (k < length rs) × (f .name (row-at rs k) ≡ name) × (f .value (row-at rs k) ≡ value))
-         → (k : ℕ) × (k < length (r ∷ rs)) × (f .name (row-at (r ∷ rs) k) ≡ name) × (f .value (row-at (r ∷ rs) k) ≡ value)
+          → (lookup f rs name ≡ Some value → (k : ℕ) × (k < length rs) × (f .name (row-at rs k) ≡ name) × (f .value (row-at rs k) ≡ value))
+          → (k : ℕ) × (k < length (r ∷ rs)) × (f .name (row-at (r ∷ rs) k) ≡ name) × (f .value (row-at (r ∷ rs) k) ≡ value)
       go true h rec =
           let here : _≡_ {A = Option (List ℕ)} (Some (f .value r)) (Some value) = sym (cond-true _ _ _ (sym h)) ∙ e in
           let same : f .value r ≡ value = cc in
@@ -97,8 +88,8 @@ module _ (f : Format) where
     good-fresh : Good f (seen ++ (r ∷ rs)) (length seen) → fresh f seen r ≡ true
     good-fresh g =
         and-from _ _
-            (ap (f .sound) (sym here-is) ∙ g .sound)
-            (not-from-false _ (absent seen (f .name r) (λ j l e. g .apart j l (ap (f .name) (seen-at j l) ∙ e ∙ ap (f .name) (sym here-is)))))
+        (ap (f .sound) (sym here-is) ∙ g .sound)
+        (not-from-false _ (absent seen (f .name r) (λ j l e. g .apart j l (ap (f .name) (seen-at j l) ∙ e ∙ ap (f .name) (sym here-is)))))
 
     fresh-good : fresh f seen r ≡ true → Good f (seen ++ (r ∷ rs)) (length seen)
     fresh-good t =
@@ -120,19 +111,19 @@ module _ (f : Format) where
   good-push seen r good t k h =
       let l = length-append seen (r ∷ []) in
       ⊎-elim
-          (λ (lt : k < length seen). good-left seen (r ∷ []) k lt (good k lt))
-          (λ (le : length seen ≤ k).
-              let last : length seen ≡ k = omega arith in
-              subst (λ i. Good f (seen ++ (r ∷ [])) i) last (fresh-good seen r [] t))
-          (cases-lt k (length seen))
+      (λ (lt : k < length seen). good-left seen (r ∷ []) k lt (good k lt))
+      (λ (le : length seen ≤ k).
+      let last : length seen ≡ k = omega arith in
+      subst (λ i. Good f (seen ++ (r ∷ [])) i) last (fresh-good seen r [] t))
+      (cases-lt k (length seen))
 
   pub searched : (seen rs : List (List ℕ)) → AllGood f seen → Searched f (seen ++ rs) (bad-behind f seen rs)
   searched seen [] good = subst (AllGood f) (sym (append-nil seen)) good
   searched seen (r ∷ rs) good = go (fresh f seen r) refl (λ t. searched (seen ++ (r ∷ [])) rs (good-push seen r good t))
     where
       go : (t : Bool) → t ≡ fresh f seen r
-         → (fresh f seen r ≡ true → Searched f ((seen ++ (r ∷ [])) ++ rs) (bad-behind f (seen ++ (r ∷ [])) rs))
-         → Searched f (seen ++ (r ∷ rs)) (cond t (bad-behind f (seen ++ (r ∷ [])) rs) (Some (record { index = length seen; start = length (flat seen) })))
+          → (fresh f seen r ≡ true → Searched f ((seen ++ (r ∷ [])) ++ rs) (bad-behind f (seen ++ (r ∷ [])) rs))
+          → Searched f (seen ++ (r ∷ rs)) (cond t (bad-behind f (seen ++ (r ∷ [])) rs) (Some (record { index = length seen; start = length (flat seen) })))
       go true h rec =
           subst (λ q. Searched f q (bad-behind f (seen ++ (r ∷ [])) rs)) (append-assoc seen (r ∷ []) rs) (rec (sym h))
       go false h rec =
@@ -151,65 +142,42 @@ module _ (f : Format) where
       go [] s = refl
       go (r ∷ rs) s = and-from _ _ (s 0 (omega arith)) (go rs (λ k h. s (suc k) (omega arith)))
 
-  module _ (most top : ℕ) (at : BadRow → ℕ) (bytes : List ℕ) where
-    pub checked : Checked f most top at bytes (table-bad f most top at bytes)
+  module _ (most top : ℕ) (bytes : List ℕ) where
+    pub checked : Checked f most top bytes (table-bad f most top bytes)
     checked = go (ltb most (length bytes)) refl (bad-row f bytes) (searched [] (rows f bytes) (λ k h. absurd (omega arith)))
       where
         go : (t : Bool) → t ≡ ltb most (length bytes) → (o : Option BadRow) → Searched f (rows f bytes) o
-           → Checked f most top at bytes (cond t (Some top) (mapped at o))
+            → Checked f most top bytes (cond t (Some (record { index = top; start = top })) o)
         go true h o s = inl (ltb-true _ _ (sym h), refl)
         go false h None s = record { short = ltb-false _ _ (sym h); good = s }
-        go false h (Some bad) s = inr (ltb-false _ _ (sym h), (bad, s, refl))
+        go false h (Some bad) s = inr (ltb-false _ _ (sym h), s)
 
-    -- the answer of the check, by what the search for a bad row found
-    pub says : (refusal : ℕ → SourceError) (o : Option BadRow) → length bytes ≤ most → o ≡ bad-row f bytes
-        → verdict refusal (mapped at o) ≡ verdict refusal (table-bad f most top at bytes)
-    says refusal o h e =
-        ap (λ p. verdict refusal (mapped at p)) e ∙ sym (ap (verdict refusal) (cond-false _ _ _ (le-ltb most (length bytes) h)))
-
-    pub says-long : (refusal : ℕ → SourceError) → most < length bytes → Err (refusal top) ≡ verdict refusal (table-bad f most top at bytes)
-    says-long refusal h = sym (ap (verdict refusal) (cond-true _ _ _ (lt-ltb most (length bytes) h)))
-
-    lawful-none : LawfulTable f most bytes → (o : Option ℕ) → Checked f most top at bytes o → isSome o ≡ false
+    lawful-none : LawfulTable f most bytes → (o : Option BadRow) → Checked f most top bytes o → isSome o ≡ false
     lawful-none l None c = refl
-    lawful-none l (Some n) c =
+    lawful-none l (Some bad) c =
         absurd (⊎-elim
-            (λ (p : (most < length bytes) × (n ≡ top)). omega (arith, p .0, l .short))
-            (λ (p : (length bytes ≤ most) × ((bad : BadRow) × FirstBad f (rows f bytes) bad × (n ≡ at bad))). p .1 .1 .here (l .good (p .1 .0 .index) (p .1 .1 .within)))
-            c)
+        (λ (p : (most < length bytes) × (bad ≡ record { index = top; start = top })). omega (arith, p .0, l .short))
+        (λ (p : (length bytes ≤ most) × FirstBad f (rows f bytes) bad). p .1 .here (l .good (bad .index) (p .1 .within)))
+        c)
 
-    unlawful-some : (LawfulTable f most bytes → ⊥) → (o : Option ℕ) → Checked f most top at bytes o → isSome o ≡ true
+    unlawful-some : (LawfulTable f most bytes → ⊥) → (o : Option BadRow) → Checked f most top bytes o → isSome o ≡ true
     unlawful-some n None c = absurd (n c)
-    unlawful-some n (Some k) c = refl
+    unlawful-some n (Some bad) c = refl
 
-    -- what a source made of these bytes reads
-    kept-sound : isSome (table-bad f most top at bytes) ≡ false → all-sound f (rows f bytes) ≡ true
-    kept-sound e = go (table-bad f most top at bytes) checked e
-      where
-        go : (o : Option ℕ) → Checked f most top at bytes o → isSome o ≡ false → all-sound f (rows f bytes) ≡ true
-        go None c e = sounds (rows f bytes) (c .good)
-        go (Some n) c e = let z : _≡_ {A = ℕ} 0 1 = cc in absurd (omega arith)
-
-    made : (kept : List ℕ) → kept ≡ usable (table-bad f most top at bytes) bytes → Made f most bytes (meaning f kept)
+    pub made : (kept : List ℕ) → kept ≡ usable (table-bad f most top bytes) bytes → Made f most bytes (meaning f kept)
     made kept e = record {
       lawful = λ l.
-        let all : kept ≡ bytes = e ∙ cond-false _ _ _ (lawful-none l _ checked) in
-        subst (λ q. Tells f (rows f bytes) (meaning f q)) (sym all) (tells (rows f bytes) (l .good));
+          let all : kept ≡ bytes = e ∙ cond-false _ _ _ (lawful-none l _ checked) in
+          subst (λ q. Tells f (rows f bytes) (meaning f q)) (sym all) (tells (rows f bytes) (l .good));
       unlawful = λ n name.
-        let none : kept ≡ [] = e ∙ cond-true _ _ _ (unlawful-some n _ checked) in
-        ap (λ q. meaning f q name) none ∙ ap (λ rs. lookup f rs name) (rows-nil f);
+          let none : kept ≡ [] = e ∙ cond-true _ _ _ (unlawful-some n _ checked) in
+          ap (λ q. meaning f q name) none ∙ ap (λ rs. lookup f rs name) (rows-nil f);
     }
 
-    -- a source made of these bytes, by the answer r of their check
-    module _ (refusal : ℕ → SourceError) (r : Result (Unit {0}) SourceError) (e : r ≡ verdict refusal (table-bad f most top at bytes)) where
-      pub refused-made : true ≡ isErr r → ([] ≡ usable (table-bad f most top at bytes) bytes) × Made f most bytes (meaning f [])
-      refused-made h = let none = sym (cond-true _ [] bytes (refused refusal _ r true e h)) in (none, made [] none)
-
-      pub passed-made : false ≡ isErr r → (bytes ≡ usable (table-bad f most top at bytes) bytes) × Made f most bytes (meaning f bytes)
-      passed-made h = let all = sym (cond-false _ [] bytes (refused refusal _ r false e h)) in (all, made bytes all)
-
-      pub passed-sound : false ≡ isErr r → all-sound f (rows f bytes) ≡ true
-      passed-sound h = kept-sound (refused refusal _ r false e h)
-
-pub nil-sound : (f : Format) → all-sound f (rows f []) ≡ true
-nil-sound f = ap (all-sound f) (rows-nil f)
+    -- what a source made of these bytes reads is sound
+    pub usable-sound : all-sound f (rows f (usable (table-bad f most top bytes) bytes)) ≡ true
+    usable-sound = go (table-bad f most top bytes) checked
+      where
+        go : (o : Option BadRow) → Checked f most top bytes o → all-sound f (rows f (usable o bytes)) ≡ true
+        go None c = sounds (rows f bytes) (c .good)
+        go (Some bad) c = ap (all-sound f) (rows-nil f)

@@ -47,7 +47,7 @@ place-append z [] ys h = absurd (omega arith)
 place-append z (b ∷ e) ys h = go (eqb b z) (place-append z e ys) h
   where
     go : (t : Bool) → (place z e < length e → place z (e ++ ys) ≡ place z e) → cond t 0 (1 + place z e) < suc (length e)
-       → cond t 0 (1 + place z (e ++ ys)) ≡ cond t 0 (1 + place z e)
+        → cond t 0 (1 + place z (e ++ ys)) ≡ cond t 0 (1 + place z e)
     go true rec l = refl
     go false rec l = ap (λ n. 1 + n) (rec (omega arith))
 

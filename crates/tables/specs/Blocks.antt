@@ -7,9 +7,13 @@ use lib.ListN.{length, take}
 use Rattle.std.specs.shelf.Lists.{between}
 use Rattle.std.specs.declared.option.Option.{Option}
 use Rattle.std.specs.declared.option.Option.the-variants.{Some, None}
+use Rattle.std.specs.declared.result.Result.{Result}
+use Rattle.source.specs.declared.error.SourceError.{SourceError}
+use Rattle.source.specs.declared.error.SourceError.the-variants.{BadBlock}
 use Rattle.text.specs.Texts.{well-formed}
 use Rattle.tables.specs.Books.{all-zero}
-use Rattle.tables.specs.Rows.{Format, table-bad}
+use Rattle.tables.specs.declared.rows.BadRow.{BadRow}
+use Rattle.tables.specs.Rows.{Format, table-bad, verdict}
 
 -- where the byte z first stands; the length where it does not
 abbrev pub place : ℕ → List ℕ → ℕ
@@ -37,6 +41,9 @@ entry-sound e =
 abbrev pub block-format : Format
 block-format = record { next = next-entry; name = entry-name; value = entry-value; sound = entry-sound }
 
--- What the check of a block finds: 16384 where it has more bytes, else the start of the first bad entry.
-abbrev pub block-bad : List ℕ → Option ℕ
-block-bad bs = table-bad block-format 16384 16384 (λ bad. bad .start) bs
+-- What the check of a block finds. A bad entry is told by its start, and a block of more than 16384 bytes by 16384.
+abbrev pub block-bad : List ℕ → Option BadRow
+block-bad bs = table-bad block-format 16384 16384 bs
+
+abbrev pub block-verdict : List ℕ → Result (Unit {0}) SourceError
+block-verdict bs = verdict (λ bad. BadBlock (bad .start)) (block-bad bs)

@@ -7,8 +7,12 @@ use lib.ListN.{length, getD, take}
 use Rattle.std.specs.shelf.Lists.{between}
 use Rattle.std.specs.declared.option.Option.{Option}
 use Rattle.std.specs.declared.option.Option.the-variants.{Some, None}
+use Rattle.std.specs.declared.result.Result.{Result}
+use Rattle.source.specs.declared.error.SourceError.{SourceError}
+use Rattle.source.specs.declared.error.SourceError.the-variants.{BadBook}
 use Rattle.text.specs.Texts.{well-formed}
-use Rattle.tables.specs.Rows.{Format, table-bad}
+use Rattle.tables.specs.declared.rows.BadRow.{BadRow}
+use Rattle.tables.specs.Rows.{Format, table-bad, verdict}
 
 -- 256 bytes, or what is left where that is less
 abbrev pub next-record : List ℕ → Option (List ℕ)
@@ -36,6 +40,9 @@ record-sound r =
 abbrev pub book-format : Format
 book-format = record { next = next-record; name = record-name; value = record-value; sound = record-sound }
 
--- What the check of a book finds: 256 where it is longer than 256 records, else the number of the first bad record.
-abbrev pub book-bad : List ℕ → Option ℕ
-book-bad bs = table-bad book-format 65536 256 (λ bad. bad .index) bs
+-- What the check of a book finds. A bad record is told by its number, and a book of more than 256 records by 256.
+abbrev pub book-bad : List ℕ → Option BadRow
+book-bad bs = table-bad book-format 65536 256 bs
+
+abbrev pub book-verdict : List ℕ → Result (Unit {0}) SourceError
+book-verdict bs = verdict (λ bad. BadBook (bad .index)) (book-bad bs)

@@ -36,11 +36,11 @@ module _ (f : Format) (laws : FormatLaws f) where
       let more = long rs n (p .1) h in
       let bound = laws .name-bound r (p .0) in
       ⊎-elim
-          (λ (t : sameBytes (f .name r) n ≡ true).
-              let same = ap length (sameBytes-decides (f .name r) n .0 t) in
-              absurd (omega arith))
-          (λ (e : sameBytes (f .name r) n ≡ false). cond-false (sameBytes (f .name r) n) (Some (f .value r)) (lookup f rs n) e ∙ more)
-          (cases-bool (sameBytes (f .name r) n))
+      (λ (t : sameBytes (f .name r) n ≡ true).
+      let same = ap length (sameBytes-decides (f .name r) n .0 t) in
+      absurd (omega arith))
+      (λ (e : sameBytes (f .name r) n ≡ false). cond-false (sameBytes (f .name r) n) (Some (f .value r)) (lookup f rs n) e ∙ more)
+      (cases-bool (sameBytes (f .name r) n))
 
   short : (rs : List (List ℕ)) (n v : List ℕ) → all-sound f rs ≡ true → lookup f rs n ≡ Some v → length v ≤ 1024
   short [] n v ok e = let z : _≡_ {A = ℕ} 0 1 = cc in absurd (omega arith)
@@ -48,14 +48,14 @@ module _ (f : Format) (laws : FormatLaws f) where
       let p = and-parts (f .sound r) (all-sound f rs) ok in
       let bound = laws .value-bound r (p .0) in
       ⊎-elim
-          (λ (t : sameBytes (f .name r) n ≡ true).
-              let here : _≡_ {A = Option (List ℕ)} (Some (f .value r)) (Some v) = sym (cond-true (sameBytes (f .name r) n) (Some (f .value r)) (lookup f rs n) t) ∙ e in
-              let same : f .value r ≡ v = cc in
-              let m = ap length same in
-              omega arith)
-          (λ (g : sameBytes (f .name r) n ≡ false).
-              short rs n v (p .1) (sym (cond-false (sameBytes (f .name r) n) (Some (f .value r)) (lookup f rs n) g) ∙ e))
-          (cases-bool (sameBytes (f .name r) n))
+      (λ (t : sameBytes (f .name r) n ≡ true).
+      let here : _≡_ {A = Option (List ℕ)} (Some (f .value r)) (Some v) = sym (cond-true (sameBytes (f .name r) n) (Some (f .value r)) (lookup f rs n) t) ∙ e in
+      let same : f .value r ≡ v = cc in
+      let m = ap length same in
+      omega arith)
+      (λ (g : sameBytes (f .name r) n ≡ false).
+      short rs n v (p .1) (sym (cond-false (sameBytes (f .name r) n) (Some (f .value r)) (lookup f rs n) g) ∙ e))
+      (cases-bool (sameBytes (f .name r) n))
 
   pub table-laws : {T : Type 0} (bytes : T → List ℕ) → ((t : T) → all-sound f (rows f (bytes t)) ≡ true) → Lawful (λ (t : T) n. meaning f (bytes t) n)
   table-laws bytes ok = record {

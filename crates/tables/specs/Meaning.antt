@@ -46,18 +46,17 @@ abbrev pub Searched : Format → List (List ℕ) → Option BadRow → Type 0
 Searched f rs None = AllGood f rs
 Searched f rs (Some bad) = FirstBad f rs bad
 
--- What the check of a table tells: a lawful one has no bad row; `top` stands for one that is too long;
--- and else comes the first bad row, told by `at`, its number or its start.
-abbrev pub Checked : Format → (most top : ℕ) → (BadRow → ℕ) → List ℕ → Option ℕ → Type 0
-Checked f most top at bytes None = LawfulTable f most bytes
-Checked f most top at bytes (Some n) =
-    ((most < length bytes) × (n ≡ top)) ⊎ ((length bytes ≤ most) × ((bad : BadRow) × FirstBad f (rows f bytes) bad × (n ≡ at bad)))
+-- What the check of a table tells: a lawful one has no bad row, one that is too long is told by `top`, and else comes the first bad row.
+abbrev pub Checked : Format → (most top : ℕ) → List ℕ → Option BadRow → Type 0
+Checked f most top bytes None = LawfulTable f most bytes
+Checked f most top bytes (Some bad) =
+    ((most < length bytes) × (bad ≡ record { index = top; start = top })) ⊎ ((length bytes ≤ most) × FirstBad f (rows f bytes) bad)
 
 -- A name is set exactly where some row has that name, and then to that row's value.
 pub record Tells (f : Format) (rs : List (List ℕ)) (means : List ℕ → Option (List ℕ)) : Type 0 where
   pub set : (k : ℕ) → k < length rs → means (f .name (row-at rs k)) ≡ Some (f .value (row-at rs k))
   pub only : (name value : List ℕ) → means name ≡ Some value
-    → (k : ℕ) × (k < length rs) × (f .name (row-at rs k) ≡ name) × (f .value (row-at rs k) ≡ value)
+      → (k : ℕ) × (k < length rs) × (f .name (row-at rs k) ≡ name) × (f .value (row-at rs k) ≡ value)
 
 -- What a source made of these bytes means: a lawful table tells its rows, and an unlawful one has nothing set.
 pub record Made (f : Format) (most : ℕ) (bytes : List ℕ) (means : List ℕ → Option (List ℕ)) : Type 0 where

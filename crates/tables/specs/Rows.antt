@@ -4,7 +4,7 @@ use mathlib.Core.List.{List, [], _∷_, _++_}
 use Prim.Native.Nat.{ℕ, zero, suc}
 use lib.Dec.{ltb}
 use lib.ListN.{length, drop}
-use Rattle.std.specs.Options.{isSome, mapped}
+use Rattle.std.specs.Options.{isSome}
 use Rattle.std.specs.shelf.Text.{sameBytes}
 use Rattle.std.specs.declared.option.Option.{Option}
 use Rattle.std.specs.declared.option.Option.the-variants.{Some, None}
@@ -64,17 +64,17 @@ bad-behind f seen (r ∷ rs) =
 abbrev pub bad-row : Format → List ℕ → Option BadRow
 bad-row f bs = bad-behind f [] (rows f bs)
 
--- What the check of a table finds: `top` where it has more than `most` bytes, else the first bad row, told by `at`.
-abbrev pub table-bad : Format → (most top : ℕ) → (BadRow → ℕ) → List ℕ → Option ℕ
-table-bad f most top at bs = cond (ltb most (length bs)) (Some top) (mapped at (bad-row f bs))
+-- What the check of a table finds: the first bad row; one that has more than `most` bytes is told by `top`.
+abbrev pub table-bad : Format → (most top : ℕ) → List ℕ → Option BadRow
+table-bad f most top bs = cond (ltb most (length bs)) (Some (record { index = top; start = top })) (bad-row f bs)
 
 -- The answer of a check that finds this.
-abbrev pub verdict : (ℕ → SourceError) → Option ℕ → Result (Unit {0}) SourceError
+abbrev pub verdict : (BadRow → SourceError) → Option BadRow → Result (Unit {0}) SourceError
 verdict refusal None = Ok tt
-verdict refusal (Some n) = Err (refusal n)
+verdict refusal (Some bad) = Err (refusal bad)
 
 -- What a source made of these bytes reads: nothing where the check finds something.
-abbrev pub usable : Option ℕ → List ℕ → List ℕ
+abbrev pub usable : Option BadRow → List ℕ → List ℕ
 usable bad bs = cond (isSome bad) [] bs
 
 -- Each row by itself may stand in the table.

@@ -1,16 +1,15 @@
 ghost use mathlib.Core.Path.{_≡_};
 ghost use mathlib.Core.Bool.{true};
 ghost use Prim.Native.Nat.{ℕ};
-ghost use Rattle.source.specs.declared.error.SourceError.the-variants.{BadBlock};
 ghost use Rattle.tables.specs.BlockLaws.{block-format-laws};
-ghost use Rattle.tables.specs.Blocks.{block-bad, block-format};
+ghost use Rattle.tables.specs.Blocks.{block-bad, block-format, block-verdict};
 ghost use Rattle.tables.specs.Formats.{table-laws};
 ghost use Rattle.tables.specs.Meaning.{Checked, Falls, Made};
-ghost use Rattle.tables.specs.Rows.{all-sound, meaning, rows, usable, verdict};
-
+ghost use Rattle.tables.specs.Rows.{all-sound, meaning, rows, usable};
 use crate::rows::RowFormat;
+use crate::rows::check_table;
 use crate::rows::find_value;
-use crate::rows::first_bad;
+use crate::rows::usable_bytes;
 use crate::scan::find_byte;
 use crate::scan::is_zero;
 use source::error::SourceError;
@@ -41,7 +40,12 @@ impl RowFormat for Entries as EntryFormat {
     fn is_sound(row: &[u8]) -> bool {
         let name = find_byte(row, b'=');
         let end = find_byte(row, 0);
-        if name < 1 || name > NAME_MAX || name >= end || end + 1 != row.len() || end > name + 1 + VALUE_MAX {
+        if name < 1
+            || name > NAME_MAX
+            || name >= end
+            || end + 1 != row.len()
+            || end > name + 1 + VALUE_MAX
+        {
             return false;
         }
         is_utf8(&row[..name]) & is_utf8(&row[name + 1..end])
@@ -59,14 +63,11 @@ impl RowFormat for Entries as EntryFormat {
 
 // Whether the bytes are a lawful block; else the start of its first bad entry, or 16384 where it is too long.
 pub fn check_block(bytes: &[u8]) -> Result<(), SourceError>
-    ensures value { λ r. ⌜ r ≡ verdict BadBlock (block-bad (now (bytes .entry))) ⌝ }
+    ensures value { λ r. ⌜ r ≡ block-verdict (now (bytes .entry)) ⌝ }
     ensures rows { λ _. ⌜ Falls block-format (now (bytes .entry)) (rows block-format (now (bytes .entry))) ⌝ }
-    ensures tells { λ _. ⌜ Checked block-format 16384 16384 (λ bad. bad .start) (now (bytes .entry)) (block-bad (now (bytes .entry))) ⌝ }
+    ensures tells { λ _. ⌜ Checked block-format 16384 16384 (now (bytes .entry)) (block-bad (now (bytes .entry))) ⌝ }
 {
-    if bytes.len() > BLOCK_MAX {
-        return Err(SourceError::BadBlock(BLOCK_MAX));
-    }
-    match first_bad::<Entries>(bytes) {
+    match check_table::<Entries>(bytes, BLOCK_MAX, BLOCK_MAX) {
         Some(bad) => Err(SourceError::BadBlock(bad.start)),
         None => Ok(()),
     }
@@ -85,10 +86,9 @@ impl<'a> Block<'a> {
         ensures value { λ r. ⌜ r .bytes .now ≡ usable (block-bad (now (bytes .entry))) (now (bytes .entry)) ⌝ }
         ensures means { λ r. ⌜ Made block-format 16384 (now (bytes .entry)) (meaning block-format (r .bytes .now)) ⌝ }
     {
-        if check_block(bytes).is_err() {
-            return Block { bytes: &[] };
+        Block {
+            bytes: usable_bytes::<Entries>(bytes, BLOCK_MAX, BLOCK_MAX),
         }
-        Block { bytes }
     }
 }
 

@@ -1,16 +1,15 @@
 ghost use mathlib.Core.Path.{_≡_};
 ghost use mathlib.Core.Bool.{true};
 ghost use Prim.Native.Nat.{ℕ};
-ghost use Rattle.source.specs.declared.error.SourceError.the-variants.{BadBook};
 ghost use Rattle.tables.specs.BookLaws.{book-format-laws};
-ghost use Rattle.tables.specs.Books.{book-bad, book-format};
+ghost use Rattle.tables.specs.Books.{book-bad, book-format, book-verdict};
 ghost use Rattle.tables.specs.Formats.{table-laws};
 ghost use Rattle.tables.specs.Meaning.{Checked, Falls, Made};
-ghost use Rattle.tables.specs.Rows.{all-sound, meaning, rows, usable, verdict};
-
+ghost use Rattle.tables.specs.Rows.{all-sound, meaning, rows, usable};
 use crate::rows::RowFormat;
+use crate::rows::check_table;
 use crate::rows::find_value;
-use crate::rows::first_bad;
+use crate::rows::usable_bytes;
 use crate::scan::is_zero;
 use source::error::SourceError;
 use source::fetch::lay_bytes;
@@ -81,14 +80,11 @@ impl RowFormat for Records as RecordFormat {
 
 // Whether the bytes are a lawful book; else the number of its first bad record, or 256 where it is too long.
 pub fn check_book(bytes: &[u8]) -> Result<(), SourceError>
-    ensures value { λ r. ⌜ r ≡ verdict BadBook (book-bad (now (bytes .entry))) ⌝ }
+    ensures value { λ r. ⌜ r ≡ book-verdict (now (bytes .entry)) ⌝ }
     ensures rows { λ _. ⌜ Falls book-format (now (bytes .entry)) (rows book-format (now (bytes .entry))) ⌝ }
-    ensures tells { λ _. ⌜ Checked book-format 65536 256 (λ bad. bad .index) (now (bytes .entry)) (book-bad (now (bytes .entry))) ⌝ }
+    ensures tells { λ _. ⌜ Checked book-format 65536 256 (now (bytes .entry)) (book-bad (now (bytes .entry))) ⌝ }
 {
-    if bytes.len() > BOOK_MAX {
-        return Err(SourceError::BadBook(RECORDS_MAX));
-    }
-    match first_bad::<Records>(bytes) {
+    match check_table::<Records>(bytes, BOOK_MAX, RECORDS_MAX) {
         Some(bad) => Err(SourceError::BadBook(bad.index)),
         None => Ok(()),
     }
@@ -107,10 +103,9 @@ impl<'a> Book<'a> {
         ensures value { λ r. ⌜ r .bytes .now ≡ usable (book-bad (now (bytes .entry))) (now (bytes .entry)) ⌝ }
         ensures means { λ r. ⌜ Made book-format 65536 (now (bytes .entry)) (meaning book-format (r .bytes .now)) ⌝ }
     {
-        if check_book(bytes).is_err() {
-            return Book { bytes: &[] };
+        Book {
+            bytes: usable_bytes::<Records>(bytes, BOOK_MAX, RECORDS_MAX),
         }
-        Book { bytes }
     }
 }
 

@@ -1,10 +1,9 @@
 ghost use mathlib.Core.Path.{_≡_};
 ghost use mathlib.Core.Bool.{true};
-ghost use mathlib.Core.List.{List, _∷_};
-ghost use Prim.Native.Nat.{ℕ};
 ghost use Rattle.std.specs.Options.{mapped};
 ghost use Rattle.tables.specs.Formats.{FormatLaws};
-ghost use Rattle.tables.specs.Rows.{Format, all-sound, bad-row, fresh, lookup, meaning, rows};
+ghost use Rattle.tables.specs.Meaning.{Checked, Falls, Made};
+ghost use Rattle.tables.specs.Rows.{Format, all-sound, bad-row, fresh, meaning, rows, table-bad, usable};
 
 // How one kind of table lies in its bytes.
 pub(crate) trait RowFormat {
@@ -60,7 +59,7 @@ fn is_fresh<F: RowFormat>(before: &[u8], row: &[u8]) -> bool
 }
 
 // The first bad row.
-pub(crate) fn first_bad<F: RowFormat>(bytes: &[u8]) -> Option<BadRow>
+fn first_bad<F: RowFormat>(bytes: &[u8]) -> Option<BadRow>
     ensures { λ r. ⌜ r ≡ bad-row (F·RowFormat .format) (now (bytes .entry)) ⌝ }
 {
     let mut index = 0;
@@ -73,4 +72,31 @@ pub(crate) fn first_bad<F: RowFormat>(bytes: &[u8]) -> Option<BadRow>
         start += row.len();
     }
     None
+}
+
+// The first bad row; a table of more than `most` bytes is told by `top`.
+pub(crate) fn check_table<F: RowFormat>(bytes: &[u8], most: usize, top: usize) -> Option<BadRow>
+    ensures value { λ r. ⌜ r ≡ table-bad (F·RowFormat .format) most top (now (bytes .entry)) ⌝ }
+    ensures rows { λ _. ⌜ Falls (F·RowFormat .format) (now (bytes .entry)) (rows (F·RowFormat .format) (now (bytes .entry))) ⌝ }
+    ensures tells { λ r. ⌜ Checked (F·RowFormat .format) most top (now (bytes .entry)) (table-bad (F·RowFormat .format) most top (now (bytes .entry))) ⌝ }
+{
+    if bytes.len() > most {
+        return Some(BadRow {
+            index: top,
+            start: top,
+        });
+    }
+    first_bad::<F>(bytes)
+}
+
+// The bytes that a source reads: all of a lawful table, and none of an unlawful one.
+pub(crate) fn usable_bytes<'a, F: RowFormat>(bytes: &'a [u8], most: usize, top: usize) -> &'a [u8]
+    ensures value { λ r. ⌜ now r ≡ usable (table-bad (F·RowFormat .format) most top (now (bytes .entry))) (now (bytes .entry)) ⌝ }
+    ensures sound { λ r. ⌜ all-sound (F·RowFormat .format) (rows (F·RowFormat .format) (now r)) ≡ true ⌝ }
+    ensures means { λ r. ⌜ Made (F·RowFormat .format) most (now (bytes .entry)) (meaning (F·RowFormat .format) (now r)) ⌝ }
+{
+    match check_table::<F>(bytes, most, top) {
+        Some(_) => &[],
+        None => bytes,
+    }
 }

@@ -15,15 +15,16 @@ use Rattle.text.specs.Texts.{well-formed}
 
 pub formed-decides : (bs : List ℕ) → Decides (well-formed bs) (Utf8 bs)
 unfolding well-formed
-formed-decides bs =
-    ( (λ t.
-        let p = and-parts (scalars (decodes bs)) (sameBytes (encodes (decodes bs)) bs) t in
-        (decodes bs, (p .0, sameBytes-decides (encodes (decodes bs)) bs .0 (p .1))))
-    , (λ u. and-from _ _ (scalars-decodes bs u) (sameBytes-decides (encodes (decodes bs)) bs .1 (encodes-decodes bs u))) )
+formed-decides bs = (
+  (λ t.
+      let p = and-parts (scalars (decodes bs)) (sameBytes (encodes (decodes bs)) bs) t in
+      (decodes bs, (p .0, sameBytes-decides (encodes (decodes bs)) bs .0 (p .1)))),
+  (λ u. and-from _ _ (scalars-decodes bs u) (sameBytes-decides (encodes (decodes bs)) bs .1 (encodes-decodes bs u))),
+)
 
 pub formed-unless : (bs : List ℕ) → (Utf8 bs → ⊥) → well-formed bs ≡ false
 formed-unless bs n =
     ⊎-elim
-        (λ (t : well-formed bs ≡ true). absurd (n (formed-decides bs .0 t)))
-        (λ (f : well-formed bs ≡ false). f)
-        (cases-bool (well-formed bs))
+    (λ (t : well-formed bs ≡ true). absurd (n (formed-decides bs .0 t)))
+    (λ (f : well-formed bs ≡ false). f)
+    (cases-bool (well-formed bs))

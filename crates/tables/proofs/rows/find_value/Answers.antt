@@ -37,7 +37,7 @@ loop-row-again g c =
     let t = turn (g .F·RowFormat .laws) (c .loop-row .inv) (c .in-Some .ensures tt) in
     let other = same-test _ (c .args .name .now) (c .eq .result) (c .eq .ensures) ∙ c .if-eq .left in
     subst (λ q. Looking (g .F·RowFormat .format) (c .args .name .now) (c .args .bytes .now) q) (sym (take-rest (c .loop-row .rest .now) (length (c .in-Some .row .now))))
-      (look-on t (ap (λ n. sameBytes n (c .args .name .now)) (sym (c .name-of .ensures)) ∙ other))
+    (look-on t (ap (λ n. sameBytes n (c .args .name .now)) (sym (c .name-of .ensures)) ∙ other))
 
 pub returns : need.returns
 returns g c = look-none (g .F·RowFormat .laws) (c .loop-row .inv) (c .in-rest .ensures tt)
