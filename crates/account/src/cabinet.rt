@@ -3,14 +3,14 @@ ghost use Prim.Native.Nat.{_≤_};
 ghost use lib.ListN.{length};
 
 // The password as the installer typed it.
-pub const TARIFF_PASS: &[u8] = b"s0l${LIMIT}ar";
+pub(crate) const TARIFF_PASS: &[u8] = b"s0l${LIMIT}ar";
 
 // The meter's own password; its name stands behind the driver's stem.
-pub const METER_PASS: &[u8] = b"m${LIMIT}8";
+pub(crate) const METER_PASS: &[u8] = b"m${LIMIT}8";
 
-pub const METER_STEM: &[u8] = b"METER_";
+pub(crate) const METER_STEM: &[u8] = b"METER_";
 
-pub const BLOCK: &[u8] = b"TARIFF_PASS=s0l${LIMIT}ar\0LIMIT=16\0METER_PASS=m${LIMIT}8\0";
+pub(crate) const BLOCK: &[u8] = b"TARIFF_PASS=s0l${LIMIT}ar\0LIMIT=16\0METER_PASS=m${LIMIT}8\0";
 
 // Writes one record of a book into the zeros at `at`.
 fn put_record(book: &mut [u8; 768], at: usize, name: &[u8], value: &[u8])
@@ -25,7 +25,7 @@ fn put_record(book: &mut [u8; 768], at: usize, name: &[u8], value: &[u8])
 }
 
 // A book with the same entries as the block.
-pub fn book() -> [u8; 768] {
+pub(crate) fn book() -> [u8; 768] {
     let mut bytes = [0u8; 768];
     put_record(&mut bytes, 0, b"TARIFF_PASS", TARIFF_PASS);
     put_record(&mut bytes, 256, b"LIMIT", b"16");

@@ -34,7 +34,7 @@ fn line(rt: &impl Print, counts: Counts, step: &str, page: &str) -> io::Result<(
     println!(rt, "  {step:<44}  {page}")
 }
 
-pub fn heading(rt: &impl Print) -> io::Result<()> {
+pub(crate) fn heading(rt: &impl Print) -> io::Result<()> {
     println!(
         rt,
         "{:>8}{:>8}{:>8}{:>8}{:>8}  {:<44}  page",
@@ -43,7 +43,7 @@ pub fn heading(rt: &impl Print) -> io::Result<()> {
 }
 
 // The check of a source of `read` bytes.
-pub fn checked(
+pub(crate) fn checked(
     rt: &impl Print,
     step: &str,
     read: usize,
@@ -69,7 +69,7 @@ pub fn checked(
 }
 
 // The value of a property, asked of any source and laid into an area.
-pub fn delivered<S: PropertySource>(
+pub(crate) fn delivered<S: PropertySource>(
     rt: &impl Print,
     step: &str,
     source: &S,
