@@ -1,3 +1,4 @@
 pub mod Laying
 pub mod Lawful
 pub mod Refusals
+pub mod Shapes

@@ -1,0 +1,2 @@
+pub mod ChargeLaws
+pub mod Calls

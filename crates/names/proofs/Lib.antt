@@ -1,0 +1,4 @@
+pub mod GlyphLaws
+pub mod ReadLaws
+pub mod TextLaws
+pub mod NameLaws

@@ -1,0 +1,4 @@
+pub mod Glyphs
+pub mod Names
+pub mod Reads
+pub mod NameLaws
