@@ -17,3 +17,11 @@ shape (Some (b ∷ bs)) = filled
 abbrev pub bytes-of : Option (List ℕ) → List ℕ
 bytes-of None = []
 bytes-of (Some value) = value
+
+-- what each name is, by what a source means
+abbrev pub shapes : (List ℕ → Option (List ℕ)) → List ℕ → Shape
+shapes means name = shape (means name)
+
+-- the bytes that each name stands for
+abbrev pub values : (List ℕ → Option (List ℕ)) → List ℕ → List ℕ
+values means name = bytes-of (means name)

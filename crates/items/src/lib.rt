@@ -1,0 +1,3 @@
+// What stands at a place of a frame.
+pub mod action;
+pub mod look;

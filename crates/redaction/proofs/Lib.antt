@@ -1,0 +1,6 @@
+mod DownLaws
+mod EndsLaws
+mod OrdersHold
+pub mod RaisedLaws
+mod SplicesLaws
+mod StepsLaws

@@ -1,0 +1,2 @@
+pub mod OpLaws
+pub mod BraceLaws
