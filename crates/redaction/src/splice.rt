@@ -25,7 +25,13 @@ pub(crate) fn splice_into(area: &mut [u8], text: &[u8], at: usize, old: usize, n
 }
 
 // In the area, whose first `len` bytes are the text, replaces `old` bytes at `at` by `new`.
-pub(crate) fn replace_in_place(area: &mut [u8], len: usize, at: usize, old: usize, new: &[u8]) -> Course
+pub(crate) fn replace_in_place(
+    area: &mut [u8],
+    len: usize,
+    at: usize,
+    old: usize,
+    new: &[u8],
+) -> Course
     requires within { ⌜ len ≤ length (now area) ⌝ }
     requires part { ⌜ at + old ≤ len ⌝ }
     ensures says { λ r. ⌜ ((given : List ℕ) → state-of given (now (area .exit)) r ≡ fitted (length (now (area .entry))) (spliced at old (now (new .entry)) (take len (now (area .entry))))) ⌝ }

@@ -11,6 +11,7 @@ use crate::rows::check_table;
 use crate::rows::find_value;
 use crate::rows::usable_bytes;
 use crate::scan::find_byte;
+use crate::scan::front;
 use crate::scan::is_zero;
 use source::error::SourceError;
 use source::fetch::lay_bytes;
@@ -34,7 +35,7 @@ impl RowFormat for Entries as EntryFormat {
             return None;
         }
         let end = find_byte(rest, 0);
-        Some(&rest[..(end + 1).min(rest.len())])
+        Some(front(rest, end + 1))
     }
 
     fn is_sound(row: &[u8]) -> bool {

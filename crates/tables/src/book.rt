@@ -10,6 +10,7 @@ use crate::rows::RowFormat;
 use crate::rows::check_table;
 use crate::rows::find_value;
 use crate::rows::usable_bytes;
+use crate::scan::front;
 use crate::scan::is_zero;
 use source::error::SourceError;
 use source::fetch::lay_bytes;
@@ -49,7 +50,7 @@ impl RowFormat for Records as RecordFormat {
         if rest.is_empty() {
             return None;
         }
-        Some(&rest[..RECORD_LEN.min(rest.len())])
+        Some(front(rest, RECORD_LEN))
     }
 
     fn is_sound(row: &[u8]) -> bool {

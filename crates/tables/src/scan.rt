@@ -1,6 +1,6 @@
 ghost use mathlib.Core.Path.{_≡_};
 ghost use Prim.Native.Nat.{_≤_};
-ghost use lib.ListN.{length};
+ghost use lib.ListN.{length, take};
 ghost use Rattle.tables.specs.Blocks.{place};
 ghost use Rattle.tables.specs.Books.{all-zero};
 
@@ -27,4 +27,11 @@ pub(crate) fn find_byte(bytes: &[u8], byte: u8) -> usize
         }
     }
     bytes.len()
+}
+
+// The first `n` bytes; all where there are fewer.
+pub(crate) fn front(bytes: &[u8], n: usize) -> &[u8]
+    ensures { λ r. ⌜ now r ≡ take n (now (bytes .entry)) ⌝ }
+{
+    &bytes[..n.min(bytes.len())]
 }
