@@ -10,6 +10,10 @@ use stem::StemSource;
 use stem::check_stem;
 use tables::block::Block;
 use tables::block::BlockSource;
+use text::TextError;
+use text::TextErrorDebug;
+use text::TextErrorPartialEq;
+use text::check_text;
 use text::is_utf8;
 
 #[test]
@@ -39,6 +43,16 @@ fn faults_of_utf8() -> Result<(), Fail> {
         check(!is_utf8(bytes))?;
     }
     Ok(())
+}
+
+#[test]
+fn texts() -> Result<(), Fail> {
+    let long = [b'a'; 8193];
+    for (len, verdict) in [(0, Ok(())), (8192, Ok(())), (8193, Err(TextError::TooLong))] {
+        check_eq(check_text(long.get(0..len).unwrap_or(&[])), verdict)?;
+    }
+    check_eq(check_text(b"ab\xc3"), Err(TextError::NotUtf8(2)))?;
+    check_eq(check_text(b"\xc3\xa9\xffb"), Err(TextError::NotUtf8(2)))
 }
 
 #[test]
