@@ -1,0 +1,9 @@
+pub mod Runs
+pub mod Reaching
+pub mod Choosing
+pub mod ActLaws
+pub mod Framing
+pub mod Walking
+pub mod Stacking
+pub mod Starting
+pub mod Finishing

@@ -1,3 +1,6 @@
 pub mod Events
-pub mod Walks
+pub mod Frames
+pub mod Outcomes
+pub mod Stacks
 pub mod Trials
+pub mod Walks
