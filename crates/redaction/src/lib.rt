@@ -1,3 +1,4 @@
+pub mod answer;
 mod course;
 pub mod redact;
 mod splice;

@@ -1,5 +1,5 @@
 -- What the code of the walk keeps: how far the events have come.
-use Rattle.std.specs.Prelude.{◌≡◌, ℕ, suc, ◌+◌, ◌-◌, ◌^◌, ◌<◌, ◌≤◌, ◌||◌, List, [], ◌∷◌, length, take, drop, Some, None, Ok, Err, Option, Result, ◌==◌, nat_lt}
+use Rattle.std.specs.Prelude.{◌≡◌, ℕ, suc, ◌+◌, ◌-◌, ◌^◌, ◌<◌, ◌≤◌, Bool, true, false, ◌||◌, List, [], ◌∷◌, length, take, drop, Some, None, Ok, Err, Option, Result, ◌==◌, nat_lt}
 use Rattle.std.specs.Borrow.{Bor}
 use Rattle.budget.specs.declared.WorkBudget.{WorkBudget}
 use Rattle.names.specs.declared.PropertySyntax.{PropertySyntax}
@@ -17,8 +17,8 @@ use Rattle.output.specs.declared.Output.{Output}
 use Rattle.output.specs.Outputs.{Holds}
 use Rattle.walk.specs.declared.frame.ExpansionFrame.{ExpansionFrame}
 use Rattle.walk.specs.declared.marks.Marks.{Marks}
-use Rattle.expansion.specs.Events.{Event, acts, begins, emits, message, nest, replaced, trace}
-use Rattle.expansion.specs.Walks.{Outcome, run, shown, stopped}
+use Rattle.walk.specs.Events.{Event, acts, begins, emits, message, nest, replaced, trace}
+use Rattle.walk.specs.Walks.{Limits, Outcome, run, shown, stopped}
 
 abbrev pub marked_replaced : ℕ → Marks → Marks
 marked_replaced depth marks = record { changed = marks.changed || (depth == 1); shows = marks.shows }
@@ -63,7 +63,6 @@ Tells out lent (E.ExpansionWorkLimitExceeded work limit) told = told ≡ []
 pub record Stopped (lent : Bor (List ℕ)) (whole : Outcome) (now : State) (e : PropertyError) : Type 0 where
   pub told : List ℕ
   pub is : whole ≡ stopped now.work.total e told
-  pub short : length told < 2 ^ 64
   pub tells : Tells now.out lent e told
   -- whatever was put out before
   pub old : List ℕ
@@ -163,7 +162,6 @@ module _ (means : List ℕ → Option (List ℕ)) (deep : ℕ) where
   pub record Message (lent : Bor (List ℕ)) (w : List ℕ) (out : Output) (n : ℕ) (pieces : List Piece) : Type 0 where
     pub holds : Holds out lent (shown (shapes means) w pieces)
     pub len : n ≡ length (shown (shapes means) w pieces)
-    pub short : n < 2 ^ 64
 
   abbrev pub TellsMessage : List ℕ → State → Output → ℕ → Type 0
   TellsMessage w before out n =

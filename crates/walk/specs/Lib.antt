@@ -1,4 +1,6 @@
+pub mod Events
 pub mod Frames
-pub mod Stacks
-pub mod Endings
 pub mod Outcomes
+pub mod Stacks
+pub mod Trials
+pub mod Walks

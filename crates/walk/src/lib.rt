@@ -1,7 +1,16 @@
 // The walk over a text with references.
-mod apply;
+ghost use Rattle.walk.specs.Trials.{Trials};
+
+pub mod apply;
 pub mod frame;
-mod frames;
+pub mod frames;
 pub mod interpolate;
-mod marks;
-mod step;
+pub mod marks;
+pub mod step;
+pub mod text;
+
+pub fn trials_hold() -> u8
+    ensures { Trials }
+{
+    0
+}

@@ -1,11 +1,19 @@
-use answers::Answer;
 use budget::WorkBudget;
+use items::action::FrameCompletion;
 use names::PropertySyntax;
 use references::error::{PropertyError, Span};
 use std::process::Abort;
 use tables::block::Block;
 use walk::frame::ExpansionFrame;
-use walk::interpolate::{InterpolateError, interpolate_compose_style_with_limits};
+use walk::interpolate::{InterpolateError, Interpolated, interpolate_compose_style_with_limits};
+
+const NONE: ExpansionFrame = ExpansionFrame {
+    start: 0,
+    cursor: 0,
+    end: 0,
+    syntax: PropertySyntax::Braced,
+    completion: FrameCompletion::Root,
+};
 
 // Walks a text into an area of eight bytes, and tells whether answer, area and work total are these.
 fn walks(
@@ -14,12 +22,12 @@ fn walks(
     syntax: PropertySyntax,
     depth: usize,
     limit: usize,
-    answer: Result<Answer, InterpolateError>,
+    answer: Result<Interpolated, InterpolateError>,
     area: &[u8],
     total: usize,
 ) {
     let mut out = [9u8; 8];
-    let mut frames = [ExpansionFrame::EMPTY; 4];
+    let mut frames = [NONE; 4];
     let mut work = WorkBudget { total: 0, limit };
     let source = Block::new(b"E=\0C=12\0");
     let r = interpolate_compose_style_with_limits(
@@ -46,7 +54,7 @@ fn texts(rt: HostRuntime) {
         PropertySyntax::Braced,
         most,
         most,
-        Ok(Answer::Unchanged),
+        Ok(Interpolated::Unchanged),
         zeros,
         3,
     );
@@ -56,7 +64,7 @@ fn texts(rt: HostRuntime) {
         PropertySyntax::Braced,
         most,
         most,
-        Ok(Answer::Replaced(3)),
+        Ok(Interpolated::Replaced(3)),
         b"a$b\0\0\0\0\0",
         6,
     );
@@ -66,7 +74,7 @@ fn texts(rt: HostRuntime) {
         PropertySyntax::DockerCompose,
         most,
         most,
-        Ok(Answer::Replaced(2)),
+        Ok(Interpolated::Replaced(2)),
         b"12\0\0\0\0\0\0",
         6,
     );
@@ -76,7 +84,7 @@ fn texts(rt: HostRuntime) {
         PropertySyntax::Braced,
         most,
         most,
-        Ok(Answer::Replaced(2)),
+        Ok(Interpolated::Replaced(2)),
         b"12\0\0\0\0\0\0",
         22,
     );
@@ -86,7 +94,7 @@ fn texts(rt: HostRuntime) {
         PropertySyntax::Braced,
         most,
         most,
-        Ok(Answer::Unchanged),
+        Ok(Interpolated::Unchanged),
         zeros,
         4,
     );
@@ -96,7 +104,7 @@ fn texts(rt: HostRuntime) {
         PropertySyntax::BracedOrBare,
         most,
         most,
-        Ok(Answer::Replaced(2)),
+        Ok(Interpolated::Replaced(2)),
         b"$C\0\0\0\0\0\0",
         13,
     );
@@ -106,7 +114,7 @@ fn texts(rt: HostRuntime) {
         PropertySyntax::DockerCompose,
         most,
         most,
-        Ok(Answer::Replaced(2)),
+        Ok(Interpolated::Replaced(2)),
         b"12\0\0\0\0\0\0",
         15,
     );
@@ -116,7 +124,7 @@ fn texts(rt: HostRuntime) {
         PropertySyntax::Braced,
         most,
         most,
-        Ok(Answer::Replaced(4)),
+        Ok(Interpolated::Replaced(4)),
         b"{}12\0\0\0\0",
         17,
     );

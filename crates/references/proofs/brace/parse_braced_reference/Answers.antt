@@ -6,8 +6,7 @@ use Rattle.names.specs.Reads.{both, name_at, name_looks}
 use Rattle.closes.specs.Closes.{close, close_looks}
 use Rattle.references.specs.Braces.{with_op}
 use Rattle.references.specs.Reads.{Within, brace_told}
-use Rattle.names.proofs.ReadLaws.{named as name-parts}
-use Rattle.references.proofs.BraceLaws.{close_over, inside, name_over, named, no_close, op_fits}
+use Rattle.references.proofs.BraceLaws.{close_over, inside, name_fills, name_over, named, no_close, op_fits}
 use Rattle.references.proofs.brace.parse_braced_reference.Goals as goal
 
 pub returns-in-err-close : goal.returns-in-err-close
@@ -58,9 +57,9 @@ returns-in-Some-parse-op c =
     let some : Some (name, rest) ≡ name_at s (take k bs) = sym (ap both c.in-Some-2.is) ∙ m.1 in
     let o = named s bs q.0 at m.0 some (ap (with_op k name) c.in-Some-parse-op.ensures) in
     let in_body : k < length bs = inside (length bs) c.in-Some.is e.within in
-    let parts = name-parts s (take k bs) (name, rest) some in
+    let fills = name_fills s (take k bs) name rest some in
     let word = op_fits rest _ c.in-Some-parse-op.ensures in
-    record { says = o.says; work = o.work; within = (in_body, omega (arith, parts.fills, length-take k bs), parts.some) }
+    record { says = o.says; work = o.work; within = (in_body, omega (arith, fills.0, length-take k bs), fills.1) }
 
 pub returns-in-None : goal.returns-in-None
 returns-in-None c =

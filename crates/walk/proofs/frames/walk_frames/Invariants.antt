@@ -1,4 +1,5 @@
-use Rattle.stack.specs.Held.{held}
+use Rattle.std.proofs.Common.{length}
+use Rattle.stack.specs.Held.{held, loan, memory}
 use Rattle.walk.specs.Frames.{state}
 use Rattle.walk.specs.Stacks.{measure}
 use Rattle.walk.proofs.Stacking.{Walked}

@@ -1,57 +1,28 @@
-use Rattle.std.proofs.Common.{◌≤◌, length, sym, ap, ◌∙◌, subst, rules}
-use Rattle.budget.specs.declared.WorkBudget.{WorkBudget}
-use Rattle.source.specs.Shapes.{values}
-use Rattle.answers.specs.Told.{answer_of, area_of}
-use Rattle.expansion.proofs.AllLaws.{walk_laws}
-use Rattle.expansion.proofs.TrialLaws.{trials}
-use Rattle.walk.specs.Outcomes.{frames_needed, walk_of}
-use Rattle.walk.proofs.Finishing.{kept_plain, passed_told, passed_total}
+use Rattle.std.proofs.Common.{◌≡◌, ℕ, List, length, replicate, sym, refl, ap, ◌∙◌, arith, rules}
+use Rattle.source.specs.Shapes.{shapes}
+use Rattle.walk.specs.Outcomes.{limits}
+use Rattle.walk.specs.Walks.{walk}
+use Rattle.walk.proofs.Finishing.{EndOf, end_of, passed, start}
 use Rattle.walk.proofs.interpolate.interpolate_compose_style_with_limits.Goals as goal
-
-pub returns-then-text-gt-TEXT-MAX : goal.returns-then-text-gt-TEXT-MAX
-returns-then-text-gt-TEXT-MAX g c =
-    record { answer = search rules; area = search rules; total = search rules; limit = search rules; laws = walk_laws; trials = trials }
-
-pub returns-then-frames-needed : goal.returns-then-frames-needed
-returns-then-frames-needed g c =
-    record { answer = search rules; area = search rules; total = search rules; limit = search rules; laws = walk_laws; trials = trials }
-
-pub returns-in-default : goal.returns-in-default
-returns-in-default g c =
-    let m = g.S.PropertySource.means c.args.source.now in
-    let text = c.args.text.now in
-    let w = c.args.work.now in
-    let n = length c.args.area.now in
-    let slots = length c.args.frames.now in
-    let whole = walk_of m c.args.syntax c.args.max-nested-expansions w text in
-    let enough : frames_needed (length text) ≤ slots = subst (λ k. k ≤ slots) c.frames-needed-needed.ensures c.if-frames-needed.false in
-    let told = passed_told (length text) slots c.if-text-gt-TEXT-MAX.false enough (values m) n whole in
-    let kept = kept_plain m c.args.syntax c.args.max-nested-expansions w text n (sym c.in-default.is ∙ c.find-dollar.ensures.place) in
-    record {
-      answer = c.keep-text.ensures.answer ∙ kept.answer ∙ ap answer_of told;
-      area = c.keep-text.ensures.area ∙ kept.area ∙ ap (area_of n) told;
-      total = ap (λ (v : WorkBudget). v.total) c.keep-text.ensures.work ∙ kept.total ∙ passed_total (length text) slots c.if-text-gt-TEXT-MAX.false enough w.total whole;
-      limit = ap (λ (v : WorkBudget). v.limit) c.keep-text.ensures.work;
-      laws = walk_laws;
-      trials = trials;
-    }
 
 pub returns : goal.returns
 returns g c =
     let m = g.S.PropertySource.means c.args.source.now in
     let text = c.args.text.now in
-    let w = c.args.work.now in
-    let n = length c.args.area.now in
-    let slots = length c.args.frames.now in
-    let whole = walk_of m c.args.syntax c.args.max-nested-expansions w text in
-    let enough : frames_needed (length text) ≤ slots = subst (λ k. k ≤ slots) c.frames-needed-needed.ensures c.if-frames-needed.false in
-    let told = passed_told (length text) slots c.if-text-gt-TEXT-MAX.false enough (values m) n whole in
-    let e = c.expand-text.ensures in
+    let whole = walk (shapes m) c.args.syntax (limits c.args.max-nested-expansions c.args.work.now.limit) c.args.work.now.total text in
+    let small = c.if-text-gt8192.false in
+    let begun = start m c.args.max-nested-expansions c.args.syntax _ text c.args.work.now c.new-out.result small c.new-out.ensures.holds in
+    let goes = c.walk-text-walked.ensures.goes _ whole begun in
+    let end = end_of m c.args.max-nested-expansions _ whole c.walk-text-walked.new.work c.walk-text-walked.new.marks c.walk-text-walked.new.out c.settle.new.out c.walk-text-walked.result goes c.settle.ensures in
+    let area = c.finish-fit.ensures.holds _ _ end.holds in
+    let fit = c.finish-fit.ensures.says _ _ end.holds in
+    let room = c.if-frames-needed.false in
+    let same = sym end.holds.same in
+    let zeros : List ℕ = replicate (length c.args.area.now) 0 in
+    let laid = area ∙ passed (length text) (length c.args.frames.now) zeros zeros _ small room in
     record {
-      answer = e.answer ∙ ap answer_of told;
-      area = e.area ∙ ap (area_of n) told;
-      total = e.total ∙ passed_total (length text) slots c.if-text-gt-TEXT-MAX.false enough w.total whole;
-      limit = e.limit;
-      laws = walk_laws;
-      trials = trials;
+      answer = c.answer.ensures ∙ end.answers _ fit ∙ passed _ _ _ _ _ small room;
+      area = search rules;
+      total = end.total ∙ passed _ _ _ _ _ small room;
+      limit = c.walk-text-walked.ensures.limit;
     }

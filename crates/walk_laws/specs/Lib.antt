@@ -1,0 +1,4 @@
+pub mod Laws
+pub mod Segments
+pub mod References
+pub mod WalkLaws

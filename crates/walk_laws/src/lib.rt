@@ -1,0 +1,8 @@
+// Laws of the walk, above its definition.
+ghost use Rattle.walk_laws.specs.WalkLaws.{WalkLaws};
+
+pub fn laws_hold() -> u8
+    ensures { WalkLaws }
+{
+    0
+}
