@@ -1,4 +1,6 @@
 // Prints an account of one real task: which text does the charge controller get for a password that has `${LIMIT}` in it?
+#![tactic(auto)]
+
 mod cabinet;
 mod ledger;
 

@@ -1,3 +1,5 @@
+#![tactic(auto)]
+
 ghost use Rattle.std.specs.Prelude.{◌≡◌, [], ◌∷◌};
 ghost use Rattle.budget.specs.Charges.{paid, spent};
 ghost use Rattle.budget.specs.Laws.{ChargeLaws};

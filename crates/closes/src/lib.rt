@@ -1,3 +1,5 @@
+#![tactic(auto)]
+
 ghost use Rattle.std.specs.Prelude.{◌≡◌, ◌<◌, length, IfSome, IfOk};
 ghost use Rattle.budget.specs.Charges.{paid, spent};
 ghost use Rattle.closes.specs.CloseLaws.{Complete, Sound};

@@ -1,3 +1,5 @@
+#![tactic(auto)]
+
 ghost use Rattle.std.specs.Prelude.{◌≡◌, ◌≤◌, map, length, IsUtf8};
 ghost use Rattle.std.specs.Str.{chars};
 ghost use Rattle.budget.specs.Charges.{paid, spent};

@@ -1,3 +1,5 @@
+#![tactic(auto)]
+
 ghost use Rattle.std.specs.Prelude.{◌≡◌, ℕ, List, [], ◌∷◌, length, take, replicate};
 ghost use Rattle.std.specs.Borrow.{Bor, MutBor};
 ghost use Rattle.source.specs.Shapes.{bytes_of};

@@ -1,2 +1,4 @@
+#![tactic(auto)]
+
 pub mod list;
 pub mod record;

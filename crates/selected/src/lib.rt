@@ -1,4 +1,6 @@
 // Whether text has to be walked.
+#![tactic(auto)]
+
 ghost use Rattle.std.specs.Prelude.{◌≡◌, ◌<◌, length, IfSome};
 ghost use Rattle.items.specs.Items.{expands, expands_here, more_than_itself};
 ghost use Rattle.selected.specs.Dollars.{first_dollar};

@@ -1,4 +1,6 @@
 // Tests of the property sources at their boundaries.
+#![tactic(auto)]
+
 #[cfg(test)]
 mod blocks;
 #[cfg(test)]

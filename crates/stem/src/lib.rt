@@ -1,4 +1,6 @@
 // The stem layer: a source whose names stand, behind a stem, in the source below.
+#![tactic(auto)]
+
 ghost use Rattle.std.specs.Prelude.{◌≡◌, ℕ, ◌≤◌, List, [], length, if◌then◌else◌};
 ghost use Rattle.std.specs.Option.{option_map};
 ghost use Rattle.stem.specs.Stems.{name_below, stem_laws, stem_lawful, stem_verdict, under};

@@ -1,4 +1,6 @@
 // Tables of properties: books and blocks.
+#![tactic(auto)]
+
 pub mod block;
 pub mod book;
 mod rows;

@@ -1,4 +1,6 @@
 // Texts: bytes that are well-formed UTF-8.
+#![tactic(auto)]
+
 ghost use Rattle.std.specs.Prelude.{◌≡◌, IsUtf8, Decides};
 ghost use Rattle.text.specs.Refusals.{refusal_number};
 ghost use Rattle.text.specs.Texts.{text_verdict, well_formed};

@@ -1,4 +1,6 @@
 // The walk over a text with references.
+#![tactic(auto)]
+
 ghost use Rattle.walk.specs.Trials.{Trials};
 
 pub mod apply;
