@@ -6,9 +6,8 @@ use Rattle.std.proofs.lemmas.Bool.{cases_lt, cond-true, cond-false, lt-ltb, le-l
 use Rattle.std.proofs.lemmas.Str.{length-encode, encodes-chars, scalars-chars}
 use Rattle.std.proofs.lemmas.Bool.Decides.{nat_tests}
 use Rattle.std.specs.Char.{len_utf8}
-use Rattle.std.specs.shelf.Text.{bytes_after}
 use Rattle.std.specs.Str.{chars}
-use Rattle.names.specs.Glyphs.{glyph, glyphs, letter_of, spelt, wide}
+use Rattle.names.specs.Glyphs.{bytes_after, glyph, glyphs, letter_of, spelt, wide}
 use Rattle.names.proofs.GlyphLaws.{first_of}
 
 -- how the four widths are written

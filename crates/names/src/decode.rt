@@ -1,8 +1,7 @@
 // The first character of bytes, which need not be well-formed UTF-8.
 
 ghost use Rattle.std.specs.Prelude.{◌≡◌, ◌+◌, ◌-◌, ◌<◌, ◌≤◌, slice_index};
-ghost use Rattle.std.specs.shelf.Text.{bytes_after};
-ghost use Rattle.names.specs.Glyphs.{glyph, letter_of, spelt};
+ghost use Rattle.names.specs.Glyphs.{bytes_after, glyph, letter_of, spelt};
 
 // The low bits of a byte inside a character; nothing past the end.
 fn bits(text: &[u8], at: usize) -> u32

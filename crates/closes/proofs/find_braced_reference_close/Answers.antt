@@ -7,10 +7,10 @@ pub returns-in-Braced : goal.returns-in-Braced
 returns-in-Braced c =
     let s = c.args.syntax in
     let bs = c.args.body.now in
-    record { says = search rules; work = search rules; within = within_made {r = c.find-balanced-close.result} c.args.work.now (close_looks s bs) s bs (search rules); sound = sound s bs; complete = complete s bs }
+    record { says = search rules; work = search rules; within = within_made {r = c.find_balanced_close.result} c.args.work.now (close_looks s bs) s bs (search rules); sound = sound s bs; complete = complete s bs }
 
 pub returns-in-DockerCompose : goal.returns-in-DockerCompose
 returns-in-DockerCompose c =
     let s = c.args.syntax in
     let bs = c.args.body.now in
-    record { says = search rules; work = search rules; within = within_made {r = c.find-compose-braced-reference-close.result} c.args.work.now (close_looks s bs) s bs (search rules); sound = sound s bs; complete = complete s bs }
+    record { says = search rules; work = search rules; within = within_made {r = c.find_compose_braced_reference_close.result} c.args.work.now (close_looks s bs) s bs (search rules); sound = sound s bs; complete = complete s bs }

@@ -5,7 +5,7 @@ use Rattle.names.proofs.begins_name.Goals as goal
 
 pub returns-in-Some : goal.returns-in-Some
 returns-in-Some c =
-    let e = c.is-var-start.ensures ∙ ap (starts_at c.args.syntax) c.in-Some.ensures in
+    let e = c.is_var_start.ensures ∙ ap (starts_at c.args.syntax) c.in-Some.ensures in
     record { says = e; text = λ u. e ∙ begins_text _ _ u }
 
 pub returns-in-None : goal.returns-in-None

@@ -7,26 +7,26 @@ use Rattle.names.proofs.NameLaws.{name_law, parts_utf8}
 use Rattle.names.proofs.TextLaws.{text_glyphs}
 use Rattle.names.proofs.parse_name.Goals as goal
 
-pub returns-in-err-charge : goal.returns-in-err-charge
-returns-in-err-charge c =
-    let e = c.in-err-charge.ensures in
-    let p = err_from_is_err_and c.from-residual.result c.from-residual.ensures.1 in
+pub returns-in_err-charge : goal.returns-in_err-charge
+returns-in_err-charge c =
+    let e = c.in_err-charge.ensures in
+    let p = err_from_is_err_and c.from_residual.result c.from_residual.ensures.1 in
     let o = read_over c.loop-ch.invariant c.in-Some.ensures (broke _ _ _ e.work tt e.says) in
     record { says = ap told p.1 ∙ ap Err p.2 ∙ o.says; work = o.work; text = text_glyphs _; cuts = parts_utf8 _ _; longest = name_law _ _ }
 
-pub returns-then-not-extends-name : goal.returns-then-not-extends-name
-returns-then-not-extends-name c =
-    let e = c.in-ok-charge.ensures in
-    let r = read_stop c.loop-ch.invariant c.in-Some.ensures (went _ _ _ e.work tt e.says).0 c.if-not-extends-name.ensures in
-    let o = read_ends r c.split-name.ensures in
+pub returns-then-not-extends_name : goal.returns-then-not-extends_name
+returns-then-not-extends_name c =
+    let e = c.in_ok-charge.ensures in
+    let r = read_stop c.loop-ch.invariant c.in-Some.ensures (went _ _ _ e.work tt e.says).0 c.if-not-extends_name.ensures in
+    let o = read_ends r c.split_name.ensures in
     record { says = o.says; work = o.work; text = text_glyphs _; cuts = parts_utf8 _ _; longest = name_law _ _ }
 
 pub loop-ch-preserved : goal.loop-ch-preserved
 loop-ch-preserved c =
-    let e = c.in-ok-charge.ensures in
-    read_more c.loop-ch.invariant c.in-Some.ensures (went _ _ _ e.work tt e.says).0 c.if-not-extends-name.ensures
+    let e = c.in_ok-charge.ensures in
+    read_more c.loop-ch.invariant c.in-Some.ensures (went _ _ _ e.work tt e.says).0 c.if-not-extends_name.ensures
 
 pub returns : goal.returns
 returns c =
-    let o = read_ends (read_none c.loop-ch.invariant c.in-default.ensures) c.split-name-2.ensures in
+    let o = read_ends (read_none c.loop-ch.invariant c.in_default.ensures) c.split_name-2.ensures in
     record { says = o.says; work = o.work; text = text_glyphs _; cuts = parts_utf8 _ _; longest = name_law _ _ }

@@ -11,12 +11,12 @@ step syntax s i r h e =
     at_drop_more (expands syntax) s i 0 h
     ∙ ap (λ t. t || expands syntax (drop (i + 1) s)) (sym (e ∙ ap (expands_here syntax (get_or s i 0)) (take_rest s (i + 1))))
 
-pub returns-then-expands-here : goal.returns-then-expands-here
-returns-then-expands-here c =
-    sym (c.loop-i.invariant ∙ step c.args.syntax c.args.text.now c.loop-i.i _ c.loop-i-test.true c.if-expands-here.ensures)
+pub returns-then-expands_here : goal.returns-then-expands_here
+returns-then-expands_here c =
+    sym (c.loop-i.invariant ∙ step c.args.syntax c.args.text.now c.loop-i.i _ c.loop-i-test.true c.if-expands_here.ensures)
 
 pub loop-i-preserved : goal.loop-i-preserved
-loop-i-preserved c = c.loop-i.invariant ∙ step c.args.syntax c.args.text.now c.loop-i.i _ c.loop-i-test.true c.if-expands-here.ensures
+loop-i-preserved c = c.loop-i.invariant ∙ step c.args.syntax c.args.text.now c.loop-i.i _ c.loop-i-test.true c.if-expands_here.ensures
 
 pub returns : goal.returns
 returns c = sym (c.loop-i.invariant ∙ at_drop_all (expands c.args.syntax) c.args.text.now c.loop-i.i c.loop-i-test.false)

@@ -7,37 +7,37 @@ use Rattle.closes.specs.Compose.{compose_close, compose_looks, looks_after}
 use Rattle.closes.proofs.ComposeLaws.{at_brace, at_operator, composed, no_operator}
 use Rattle.closes.proofs.compose.find_compose_braced_reference_close.Goals as goal
 
-pub returns-in-err-name : goal.returns-in-err-name
-returns-in-err-name c =
-    let e = c.in-err-name.ensures in
+pub returns-in_err-name : goal.returns-in_err-name
+returns-in_err-name c =
+    let e = c.in_err-name.ensures in
     let bs = c.args.body.now in
-    let p = err_from_is_err_and c.from-residual.result c.from-residual.ensures.1 in
+    let p = err_from_is_err_and c.from_residual.result c.from_residual.ensures.1 in
     let b = broke _ _ (name_looks DockerCompose bs) e.work (name_at DockerCompose bs) e.says in
     let o = left_over (looks_after (name_at DockerCompose bs)) (compose_close bs) (left_all c.args.work.now (compose_looks bs)) b in
     record { says = p.1 ∙ ap Err p.2 ∙ o.says; work = o.work }
 
-pub returns-then-has-front : goal.returns-then-has-front
-returns-then-has-front c =
-    let e = c.in-ok-name.ensures in
+pub returns-then-has_front : goal.returns-then-has_front
+returns-then-has_front c =
+    let e = c.in_ok-name.ensures in
     let p = went _ _ _ e.work (name_at DockerCompose c.args.body.now) e.says in
     let some = sym (ap both c.in-Some.is) ∙ p.1 in
-    let o = composed _ c.in-Some.name.now c.in-Some.rest.now [] _ p.0 some (at_brace _ c.in-Some.rest.now c.if-has-front.ensures) refl refl in
+    let o = composed _ c.in-Some.name.now c.in-Some.rest.now [] _ p.0 some (at_brace _ c.in-Some.rest.now c.if-has_front.ensures) refl refl in
     record { says = o.says; work = o.work }
 
 pub returns-then-op-eq0 : goal.returns-then-op-eq0
 returns-then-op-eq0 c =
-    let e = c.in-ok-name.ensures in
+    let e = c.in_ok-name.ensures in
     let p = went _ _ _ e.work (name_at DockerCompose c.args.body.now) e.says in
     let some = sym (ap both c.in-Some.is) ∙ p.1 in
     let o = composed _ c.in-Some.name.now c.in-Some.rest.now [] None p.0 some
-    (no_operator _ _ c.in-Some.rest.now c.operator-len-op.ensures c.if-has-front.ensures c.if-op-eq0.true) refl refl in
+    (no_operator _ _ c.in-Some.rest.now c.operator_len-op.ensures c.if-has_front.ensures c.if-op-eq0.true) refl refl in
     record { says = o.says; work = o.work }
 
 pub returns : goal.returns
 returns c =
-    let e = c.in-ok-name.ensures in
+    let e = c.in_ok-name.ensures in
     let p = went _ _ _ e.work (name_at DockerCompose c.args.body.now) e.says in
     let some = sym (ap both c.in-Some.is) ∙ p.1 in
     let o = composed _ c.in-Some.name.now c.in-Some.rest.now _ _ p.0 some
-    (at_operator _ _ c.in-Some.rest.now c.operator-len-op.ensures c.if-has-front.ensures c.if-op-eq0.false) c.find-text-close.ensures.says c.find-text-close.ensures.work in
+    (at_operator _ _ c.in-Some.rest.now c.operator_len-op.ensures c.if-has_front.ensures c.if-op-eq0.false) c.find_text_close.ensures.says c.find_text_close.ensures.work in
     record { says = o.says; work = o.work }

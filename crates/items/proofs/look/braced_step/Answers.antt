@@ -8,7 +8,7 @@ pub returns-in-Unclosed : goal.returns-in-Unclosed
 returns-in-Unclosed g c =
     let sh = shapes (g.S.PropertySource.means c.args.source.now) in
     record {
-      says = brace_says sh c.args.syntax c.args.cursor (length c.args.rest.now) c.args.body Unclosed c.unclosed-step.result c.in-Unclosed.is (c.unclosed-step.ensures.says sh);
-      within = c.unclosed-step.ensures.within;
-      asked = c.unclosed-step.ensures.asked (g.S.PropertySource.means c.args.source.now);
+      says = brace_says sh c.args.syntax c.args.cursor (length c.args.rest.now) c.args.body Unclosed c.unclosed_step.result c.in-Unclosed.is (c.unclosed_step.ensures.says sh);
+      within = c.unclosed_step.ensures.within;
+      asked = c.unclosed_step.ensures.asked (g.S.PropertySource.means c.args.source.now);
     }

@@ -18,14 +18,14 @@ returns-then-cursor-input g c =
       asked = tt;
     }
 
-pub returns-in-err-step : goal.returns-in-err-step
-returns-in-err-step g c =
+pub returns-in_err-step : goal.returns-in_err-step
+returns-in_err-step g c =
     let sh = shapes (g.S.PropertySource.means c.args.source.now) in
     let i = c.args.cursor in
     let xs = c.args.input.now in
     let more = drop_more xs i 0 c.if-cursor-input.false in
-    let p = err_from_is_err_and c.from-residual.result c.from-residual.ensures.1 in
-    let e = c.in-err-step.ensures in
+    let p = err_from_is_err_and c.from_residual.result c.from_residual.ensures.1 in
+    let e = c.in_err-step.ensures in
     let says = ap some_looked e.says ∙ sym (ap (look sh c.args.syntax i c.args.work.now) more) in
     let work = e.work ∙ sym (ap (λ q. spent c.args.work.now (charges_at sh c.args.syntax i q)) more) in
     rw (p.1, p.2) (record { says = says; work = work; within = tt; asked = tt })
@@ -36,7 +36,7 @@ returns g c =
     let i = c.args.cursor in
     let xs = c.args.input.now in
     let more = drop_more xs i 0 c.if-cursor-input.false in
-    let e = c.in-ok-step.ensures in
+    let e = c.in_ok-step.ensures in
     record {
       says = ap some_looked e.says ∙ sym (ap (look sh c.args.syntax i c.args.work.now) more);
       work = e.work ∙ sym (ap (λ q. spent c.args.work.now (charges_at sh c.args.syntax i q)) more);

@@ -9,8 +9,8 @@ use Rattle.items.specs.Looks.{Lies, behind_dollar, looking}
 use Rattle.items.proofs.ByteLaws.{bare_behind, spent_one, then_one}
 use Rattle.items.proofs.look.look_dollar.Goals as goal
 
-pub returns-in-default : goal.returns-in-default
-returns-in-default g c =
+pub returns-in_default : goal.returns-in_default
+returns-in_default g c =
     let sh = shapes (g.S.PropertySource.means c.args.source.now) in
     let s = c.args.syntax in
     let i = c.args.cursor in
@@ -21,11 +21,11 @@ returns-in-default g c =
     let rest : take (length xs - (i + 1)) (drop (i + 1) xs) ≡ b ∷ bs = take_rest xs (i + 1) ∙ drop_more xs (i + 1) 0 (omega arith) ∙ ap (λ n. b ∷ drop n xs) two in
     let at = ap (bare_item sh s i) rest ∙ bare_behind sh s i b bs (ne_eqb b 36 (λ h. omega arith)) (ne_eqb b 123 (λ h. omega arith)) in
     let w₁ = c.charge.new.self in
-    let p = (went c.args.work.now w₁ (1 ∷ []) c.in-ok-charge.ensures.work tt c.in-ok-charge.ensures.says).0 in
+    let p = (went c.args.work.now w₁ (1 ∷ []) c.in_ok-charge.ensures.work tt c.in_ok-charge.ensures.says).0 in
     let all : i + 1 + length (take (length xs - (i + 1)) (drop (i + 1) xs)) ≡ length xs = omega (arith, ap length (take_rest xs (i + 1)), length-drop (i + 1) xs) in
     record {
-      says = c.look-bare.ensures.says ∙ ap (looking w₁ i) at ∙ then_one i (behind_dollar sh s i b bs) p;
-      work = spent_one i (behind_dollar sh s i b bs) p (c.look-bare.ensures.work ∙ ap (λ it. spent w₁ it.looks) at);
-      within = subst (λ n. Lies n i c.look-bare.result) all c.look-bare.ensures.within;
-      asked = c.look-bare.ensures.asked;
+      says = c.look_bare.ensures.says ∙ ap (looking w₁ i) at ∙ then_one i (behind_dollar sh s i b bs) p;
+      work = spent_one i (behind_dollar sh s i b bs) p (c.look_bare.ensures.work ∙ ap (λ it. spent w₁ it.looks) at);
+      within = subst (λ n. Lies n i c.look_bare.result) all c.look_bare.ensures.within;
+      asked = c.look_bare.ensures.asked;
     }

@@ -14,5 +14,5 @@ returns c =
       | then-at-self w ↦ ap (λ o. o.area) w.self-is ∙ ap (at_last out.area) (byte_laid out.area.now (byte ∷ []) out.len byte refl refl w.if-at-self.true)
       | else-at-self w ↦ ap (λ o. o.area) w.self-is ∙ ap (at_last out.area) (past_laid out.area.now (byte ∷ []) out.len w.if-at-self.false)
     ] in
-    let puts = put_is out (byte ∷ []) 1 laid refl c.saturating-add-self.ensures in
+    let puts = put_is out (byte ∷ []) 1 laid refl c.saturating_add-self.ensures in
     record { puts = puts; grows = put_grows (byte ∷ []) 1 puts refl }

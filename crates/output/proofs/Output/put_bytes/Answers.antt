@@ -6,6 +6,6 @@ pub returns : goal.returns
 returns c =
     let out = c.args.self.now in
     let part = c.args.part.now in
-    let laid = part_laid (Some part) out.area.now c.lay-bytes.new.area c.min-at.result out.len c.min-at.ensures c.lay-bytes.ensures in
-    let puts = put_is out part (length part) refl laid c.saturating-add-self.ensures in
+    let laid = part_laid (Some part) out.area.now c.lay_bytes.new.area c.min-at.result out.len c.min-at.ensures c.lay_bytes.ensures in
+    let puts = put_is out part (length part) refl laid c.saturating_add-self.ensures in
     record { puts = puts; grows = put_grows part (length part) puts refl }

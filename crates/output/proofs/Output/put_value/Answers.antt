@@ -7,6 +7,6 @@ pub returns : goal.returns
 returns g c =
     let out = c.args.self.now in
     let value = g.S.PropertySource.means c.args.source.now c.args.name.now in
-    let laid = part_laid value out.area.now c.lay-value.new.area c.min-at.result out.len c.min-at.ensures c.lay-value.ensures in
-    let puts = put_is out (bytes_of value) c.args.len refl laid c.saturating-add-self.ensures in
+    let laid = part_laid value out.area.now c.lay_value.new.area c.min-at.result out.len c.min-at.ensures c.lay_value.ensures in
+    let puts = put_is out (bytes_of value) c.args.len refl laid c.saturating_add-self.ensures in
     record { puts = puts; grows = put_grows (bytes_of value) c.args.len puts }

@@ -11,11 +11,11 @@ pub returns-in-Interpolate : goal.returns-in-Interpolate
 returns-in-Interpolate g c =
     let m = g.S.PropertySource.means c.args.source.now in
     let w = c.args.work.now in
-    let e = c.select-text.ensures in
+    let e = c.select_text.ensures in
     record {
-      opens = subst (λ a. OpensBy c.args.close c.args.syntax a c.select-text.result) (sym c.in-Interpolate.is) (opens_by _ _ c.in-Interpolate.text c.in-Interpolate.completion c.select-text.result e.opens);
+      opens = subst (λ a. OpensBy c.args.close c.args.syntax a c.select_text.result) (sym c.in-Interpolate.is) (opens_by _ _ c.in-Interpolate.text c.in-Interpolate.completion c.select_text.result e.opens);
       limit = e.limit;
-      goes = λ nested. subst (λ a. Applies m c.args.max-depth nested c.args.depth c.args.syntax c.args.close a (state w c.args.marks.now c.args.out.now) (state c.select-text.new.work c.select-text.new.marks c.select-text.new.out) c.select-text.result) (sym c.in-Interpolate.is) (e.goes m nested);
+      goes = λ nested. subst (λ a. Applies m c.args.max_depth nested c.args.depth c.args.syntax c.args.close a (state w c.args.marks.now c.args.out.now) (state c.select_text.new.work c.select_text.new.marks c.select_text.new.out) c.select_text.result) (sym c.in-Interpolate.is) (e.goes m nested);
     }
 
 pub returns-in-Keep : goal.returns-in-Keep
@@ -26,8 +26,8 @@ returns-in-Keep g c =
     record {
       opens = tt;
       limit = refl;
-      goes = λ nested. subst (λ a. Applies m c.args.max-depth nested c.args.depth c.args.syntax c.args.close a (state w marks c.args.out.now) (state w marks c.put-byte.new.self) (Ok None)) (sym c.in-Keep.is)
-          (λ lent whole left es r. reach_emits (lit c.in-Keep.byte ∷ []) 1 (omega arith) refl (sym (or_none marks.shows)) refl c.put-byte.ensures.grows r);
+      goes = λ nested. subst (λ a. Applies m c.args.max_depth nested c.args.depth c.args.syntax c.args.close a (state w marks c.args.out.now) (state w marks c.put_byte.new.self) (Ok None)) (sym c.in-Keep.is)
+          (λ lent whole left es r. reach_emits (lit c.in-Keep.byte ∷ []) 1 (omega arith) refl (sym (or_none marks.shows)) refl c.put_byte.ensures.grows r);
     }
 
 pub returns-in-Dollar : goal.returns-in-Dollar
@@ -38,8 +38,8 @@ returns-in-Dollar g c =
     record {
       opens = tt;
       limit = refl;
-      goes = λ nested. subst (λ a. Applies m c.args.max-depth nested c.args.depth c.args.syntax c.args.close a (state w c.args.marks.now c.args.out.now) (state w marks c.put-byte-in-Dollar.new.self) (Ok None)) (sym c.in-Dollar.is)
-          (λ lent whole left es r. reach_emits (lit 36 ∷ []) 1 (omega arith) refl (sym (or_none marks.shows)) refl c.put-byte-in-Dollar.ensures.grows (reach_replaced c.args.depth c.replace.ensures r));
+      goes = λ nested. subst (λ a. Applies m c.args.max_depth nested c.args.depth c.args.syntax c.args.close a (state w c.args.marks.now c.args.out.now) (state w marks c.put_byte-in-Dollar.new.self) (Ok None)) (sym c.in-Dollar.is)
+          (λ lent whole left es r. reach_emits (lit 36 ∷ []) 1 (omega arith) refl (sym (or_none marks.shows)) refl c.put_byte-in-Dollar.ensures.grows (reach_replaced c.args.depth c.replace.ensures r));
     }
 
 pub returns-in-Property : goal.returns-in-Property
@@ -50,8 +50,8 @@ returns-in-Property g c =
     record {
       opens = tt;
       limit = refl;
-      goes = λ nested. subst (λ a. Applies m c.args.max-depth nested c.args.depth c.args.syntax c.args.close a (state w c.args.marks.now c.args.out.now) (state w c.show.new.self c.put-value.new.self) (Ok None)) (sym c.in-Property.is)
-          (λ lent whole left es r. reach_value c.in-Property.name.now c.in-Property.len known c.show.ensures c.put-value.ensures.grows (reach_replaced c.args.depth c.replace-in-Property.ensures r));
+      goes = λ nested. subst (λ a. Applies m c.args.max_depth nested c.args.depth c.args.syntax c.args.close a (state w c.args.marks.now c.args.out.now) (state w c.show.new.self c.put_value.new.self) (Ok None)) (sym c.in-Property.is)
+          (λ lent whole left es r. reach_value c.in-Property.name.now c.in-Property.len known c.show.ensures c.put_value.ensures.grows (reach_replaced c.args.depth c.replace-in-Property.ensures r));
     }
 
 pub returns-in-Nothing : goal.returns-in-Nothing
@@ -61,6 +61,6 @@ returns-in-Nothing g c =
     record {
       opens = tt;
       limit = refl;
-      goes = λ nested. subst (λ a. Applies m c.args.max-depth nested c.args.depth c.args.syntax c.args.close a (state w c.args.marks.now c.args.out.now) (state w c.replace-in-Nothing.new.self c.args.out.now) (Ok None)) (sym c.in-Nothing.is)
+      goes = λ nested. subst (λ a. Applies m c.args.max_depth nested c.args.depth c.args.syntax c.args.close a (state w c.args.marks.now c.args.out.now) (state w c.replace-in-Nothing.new.self c.args.out.now) (Ok None)) (sym c.in-Nothing.is)
           (λ lent whole left es r. reach_replaced c.args.depth c.replace-in-Nothing.ensures (reach_less left (omega arith) r));
     }

@@ -8,9 +8,9 @@ use Rattle.walk.proofs.apply.complete_frame.Goals as goal
 pub returns-in-RequiredButUnset : goal.returns-in-RequiredButUnset
 returns-in-RequiredButUnset c = λ means deep work lent whole left es r.
     let at = subst (λ k. Reached means deep lent whole left (completed k c.args.text.now es) (state work c.args.marks c.args.out.now)) c.in-RequiredButUnset.is r in
-    stop_message unset _ _ _ at (c.message-len.ensures means deep work lent whole _ _ at)
+    stop_message unset _ _ _ at (c.message_len.ensures means deep work lent whole _ _ at)
 
 pub returns-in-RequiredButEmpty : goal.returns-in-RequiredButEmpty
 returns-in-RequiredButEmpty c = λ means deep work lent whole left es r.
     let at = subst (λ k. Reached means deep lent whole left (completed k c.args.text.now es) (state work c.args.marks c.args.out.now)) c.in-RequiredButEmpty.is r in
-    stop_message empty _ _ _ at (c.message-len-in-RequiredButEmpty.ensures means deep work lent whole _ _ at)
+    stop_message empty _ _ _ at (c.message_len-in-RequiredButEmpty.ensures means deep work lent whole _ _ at)

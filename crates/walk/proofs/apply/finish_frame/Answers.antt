@@ -8,4 +8,4 @@ pub returns : goal.returns
 returns c = λ means deep work lent whole left es r.
     let text = c.args.text.now in
     let x = c.args.frame in
-    c.complete-frame.ensures means deep work lent whole left es (reach_same (ap (λ w. completed x.completion w es) (sym (between_is text x.start x.end))) r)
+    c.complete_frame.ensures means deep work lent whole left es (reach_same (ap (λ w. completed x.completion w es) (sym (between_is text x.start x.end))) r)

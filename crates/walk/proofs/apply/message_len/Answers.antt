@@ -11,7 +11,7 @@ returns c = λ means deep work lent whole left es r.
     elim c.if-marks.branch [
       | goal.then-marks w ↦
           let len = c.len.ensures ∙ ap (λ (o : Output). o.len) w.out-is in
-          subst told (sym w.out-is) (message_source text _ (omega arith) w.if-marks.true len r (λ old h. w.put-bytes.ensures.grows lent [] (w.clear.ensures.holds lent old h)))
+          subst told (sym w.out-is) (message_source text _ (omega arith) w.if-marks.true len r (λ old h. w.put_bytes.ensures.grows lent [] (w.clear.ensures.holds lent old h)))
       | goal.else-marks w ↦
           let len = c.len.ensures ∙ ap (λ (o : Output). o.len) w.out-is in
           subst told (sym w.out-is) (message_pieces text _ w.if-marks.false len r)

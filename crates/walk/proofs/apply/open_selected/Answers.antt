@@ -3,8 +3,8 @@ use Rattle.walk.specs.Frames.{frame_of}
 use Rattle.walk.proofs.Reaching.{reach_nest, stop_nest}
 use Rattle.walk.proofs.apply.open_selected.Goals as goal
 
-pub returns-then-depth-max-depth : goal.returns-then-depth-max-depth
-returns-then-depth-max-depth c = record { opens = tt; goes = λ means nested work lent whole left es r. stop_nest _ c.if-depth-max-depth.true r }
+pub returns-then-depth-max_depth : goal.returns-then-depth-max_depth
+returns-then-depth-max_depth c = record { opens = tt; goes = λ means nested work lent whole left es r. stop_nest _ c.if-depth-max_depth.true r }
 
 pub returns : goal.returns
-returns c = record { opens = cc; goes = λ means nested work lent whole left es r. c.begin-selected.ensures means _ work lent whole _ _ (reach_nest _ c.if-depth-max-depth.false r) }
+returns c = record { opens = cc; goes = λ means nested work lent whole left es r. c.begin_selected.ensures means _ work lent whole _ _ (reach_nest _ c.if-depth-max_depth.false r) }

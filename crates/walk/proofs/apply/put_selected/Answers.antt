@@ -7,5 +7,5 @@ use Rattle.walk.proofs.apply.put_selected.Goals as goal
 
 pub returns : goal.returns
 returns c = λ means deep work lent whole left es r.
-    let begun = c.begin-selected.ensures means deep work lent whole _ _ r in
-    c.complete-frame.ensures means deep work lent whole left es (reach_literal c.args.text.now c.put-bytes.ensures.grows begun)
+    let begun = c.begin_selected.ensures means deep work lent whole _ _ r in
+    c.complete_frame.ensures means deep work lent whole left es (reach_literal c.args.text.now c.put_bytes.ensures.grows begun)

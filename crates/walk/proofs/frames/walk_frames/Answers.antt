@@ -10,10 +10,10 @@ pub returns : goal.returns
 returns g c =
     let inv = c.loop-frame.invariant in
     let m = g.S.PropertySource.means c.args.source.now in
-    let none = popped_none (held c.loop-frame.frames) c.pop.result c.in-default.is c.pop.ensures.says in
+    let none = popped_none (held c.loop-frame.frames) c.pop.result c.in_default.is c.pop.ensures.says in
     let st = state c.loop-frame.work c.loop-frame.marks c.loop-frame.out in
     record {
-      goes = λ lent whole r. subst (λ l. Reached m c.args.max-depth lent whole (left l) (pending (shapes m) c.args.text.now 0 l []) st) none (inv.goes lent whole r);
+      goes = λ lent whole r. subst (λ l. Reached m c.args.max_depth lent whole (left l) (pending (shapes m) c.args.text.now 0 l []) st) none (inv.goes lent whole r);
       limit = inv.limit;
       memory = ap length c.pop.ensures.memory ∙ inv.memory;
       loan = c.pop.ensures.loan ∙ inv.loan;

@@ -9,15 +9,15 @@ use Rattle.walk.proofs.Reaching.{reach_same}
 use Rattle.walk.proofs.Stacking.{fuel, newest, pushed, reach_nested, reach_newest, room_first, room_second, turned_end, turned_nested, turns_by}
 use Rattle.walk.proofs.frames.walk_newest.Goals as goal
 
-pub walk-frame-requires : goal.walk-frame-requires
-walk-frame-requires g c = (newest (held c.args.frames.now) c.args.frame c.requires).within
+pub walk_frame-requires : goal.walk_frame-requires
+walk_frame-requires g c = (newest (held c.args.frames.now) c.args.frame c.requires).within
 
-pub returns-in-err-nested : goal.returns-in-err-nested
-returns-in-err-nested g c =
-    let e = c.in-err-nested.ensures in
+pub returns-in_err-nested : goal.returns-in_err-nested
+returns-in_err-nested g c =
+    let e = c.in_err-nested.ensures in
     let xs = held c.args.frames.now in
     let x = c.args.frame in
-    let p = err_from_is_err_and c.from-residual.result c.from-residual.ensures.1 in
+    let p = err_from_is_err_and c.from_residual.result c.from_residual.ensures.1 in
     let d : c.len-depth.result + 1 ≡ length xs + 1 = ap (λ n. n + 1) c.len-depth.ensures in
     rw (p.1, p.2) (record {
       turns = tt;
@@ -27,32 +27,32 @@ returns-in-err-nested g c =
       loan = refl;
     })
 
-pub finish-frame-requires : goal.finish-frame-requires
-finish-frame-requires g c =
+pub finish_frame-requires : goal.finish_frame-requires
+finish_frame-requires g c =
     let s = newest (held c.args.frames.now) c.args.frame c.requires in
-    let same = c.in-ok-nested.ensures.frame in
+    let same = c.in_ok-nested.ensures.frame in
     let start = ap (λ (z : ExpansionFrame). z.start) same in
     let end = ap (λ (z : ExpansionFrame). z.end) same in
     (omega (arith, s.ordered), omega (arith, s.within))
 
-pub returns-in-default : goal.returns-in-default
-returns-in-default g c =
-    let e = c.in-ok-nested.ensures in
+pub returns-in_default : goal.returns-in_default
+returns-in_default g c =
+    let e = c.in_ok-nested.ensures in
     let m = g.S.PropertySource.means c.args.source.now in
     let text = c.args.text.now in
     let xs = held c.args.frames.now in
     let x = c.args.frame in
-    let y = c.walk-frame.new.frame in
-    let w = c.walk-frame.new.work in
-    let st = state w c.walk-frame.new.marks c.walk-frame.new.out in
+    let y = c.walk_frame.new.frame in
+    let w = c.walk_frame.new.work in
+    let st = state w c.walk_frame.new.marks c.walk_frame.new.out in
     let d : c.len-depth.result + 1 ≡ length xs + 1 = ap (λ n. n + 1) c.len-depth.ensures in
     record {
       turns = turns_by _ (turned_end xs x c.requires);
       goes = λ lent whole r.
           let es = pending (shapes m) text 0 xs [] in
           let to = e.goes (fuel xs x c.requires) lent whole (left xs) (completed x.completion (part text x.start x.end) es) (reach_newest xs x c.requires (c.len-depth.result + 1) d r) in
-          let at = subst (λ o. Framed m c.args.max-depth text lent whole (fuel xs x c.requires) (c.len-depth.result + 1) (left xs) (completed x.completion (part text x.start x.end) es) y st (Ok o)) c.in-default.is to in
-          c.finish-frame.ensures m c.args.max-depth w lent whole (left xs) es (reach_same (ap (λ (z : ExpansionFrame). completed z.completion (part text z.start z.end) es) (sym e.frame)) at);
+          let at = subst (λ o. Framed m c.args.max_depth text lent whole (fuel xs x c.requires) (c.len-depth.result + 1) (left xs) (completed x.completion (part text x.start x.end) es) y st (Ok o)) c.in_default.is to in
+          c.finish_frame.ensures m c.args.max_depth w lent whole (left xs) es (reach_same (ap (λ (z : ExpansionFrame). completed z.completion (part text z.start z.end) es) (sym e.frame)) at);
       limit = e.limit;
       memory = refl;
       loan = refl;
@@ -60,15 +60,15 @@ returns-in-default g c =
 
 pub returns : goal.returns
 returns g c =
-    let e = c.in-ok-nested.ensures in
+    let e = c.in_ok-nested.ensures in
     let m = g.S.PropertySource.means c.args.source.now in
     let text = c.args.text.now in
     let xs = held c.args.frames.now in
     let x = c.args.frame in
-    let y = c.walk-frame.new.frame in
+    let y = c.walk_frame.new.frame in
     let n = c.in-Some.nested in
     let k = y.cursor in
-    let st = state c.walk-frame.new.work c.walk-frame.new.marks c.walk-frame.new.out in
+    let st = state c.walk_frame.new.work c.walk_frame.new.marks c.walk_frame.new.out in
     let d : c.len-depth.result + 1 ≡ length xs + 1 = ap (λ n. n + 1) c.len-depth.ensures in
     let nests = subst (λ o. Nested x.cursor k x.end (Ok o)) c.in-Some.is e.nested in
     let slots : length (memory c.push.new.self) ≡ length (memory c.args.frames.now) = ap length c.push.ensures.memory ∙ simp length-set in
@@ -82,9 +82,9 @@ returns g c =
       goes = λ lent whole r.
           let es = completed x.completion (part text x.start x.end) (pending (shapes m) text 0 xs []) in
           let to = e.goes (fuel xs x c.requires) lent whole (left xs) es (reach_newest xs x c.requires (c.len-depth.result + 1) d r) in
-          let at = subst (λ o. Framed m c.args.max-depth text lent whole (fuel xs x c.requires) (c.len-depth.result + 1) (left xs) es y st (Ok o)) c.in-Some.is to in
-          let at₁ = subst (λ z. Framed m c.args.max-depth text lent whole (fuel xs x c.requires) (c.len-depth.result + 1) (left xs) es z st (Ok (Some n))) e.frame at in
-          subst (λ l. Reached m c.args.max-depth lent whole (left l) (pending (shapes m) text 0 l []) st) (sym both) (reach_nested xs x c.requires (c.len-depth.result + 1) d k n at₁);
+          let at = subst (λ o. Framed m c.args.max_depth text lent whole (fuel xs x c.requires) (c.len-depth.result + 1) (left xs) es y st (Ok o)) c.in-Some.is to in
+          let at₁ = subst (λ z. Framed m c.args.max_depth text lent whole (fuel xs x c.requires) (c.len-depth.result + 1) (left xs) es z st (Ok (Some n))) e.frame at in
+          subst (λ l. Reached m c.args.max_depth lent whole (left l) (pending (shapes m) text 0 l []) st) (sym both) (reach_nested xs x c.requires (c.len-depth.result + 1) d k n at₁);
       limit = e.limit;
       memory = ap length c.push-2.ensures.memory ∙ simp length-set slots;
       loan = c.push-2.ensures.loan ∙ c.push.ensures.loan;

@@ -9,11 +9,11 @@ pub returns : goal.returns
 returns g c =
     let m = g.S.PropertySource.means c.args.source.now in
     let text = c.args.text.now in
-    let whole = walk (shapes m) c.args.syntax (limits c.args.max-nested-expansions c.args.work.now.limit) c.args.work.now.total text in
+    let whole = walk (shapes m) c.args.syntax (limits c.args.max_nested_expansions c.args.work.now.limit) c.args.work.now.total text in
     let small = c.if-text-gt8192.false in
-    let begun = start m c.args.max-nested-expansions c.args.syntax _ text c.args.work.now c.new-out.result small c.new-out.ensures.holds in
-    let goes = c.walk-text-walked.ensures.goes _ whole begun in
-    let end = end_of m c.args.max-nested-expansions _ whole c.walk-text-walked.new.work c.walk-text-walked.new.marks c.walk-text-walked.new.out c.settle.new.out c.walk-text-walked.result goes c.settle.ensures in
+    let begun = start m c.args.max_nested_expansions c.args.syntax _ text c.args.work.now c.new-out.result small c.new-out.ensures.holds in
+    let goes = c.walk_text-walked.ensures.goes _ whole begun in
+    let end = end_of m c.args.max_nested_expansions _ whole c.walk_text-walked.new.work c.walk_text-walked.new.marks c.walk_text-walked.new.out c.settle.new.out c.walk_text-walked.result goes c.settle.ensures in
     let area = c.finish-fit.ensures.holds _ _ end.holds in
     let fit = c.finish-fit.ensures.says _ _ end.holds in
     let room = c.if-frames-needed.false in
@@ -24,5 +24,5 @@ returns g c =
       answer = c.answer.ensures ∙ end.answers _ fit ∙ passed _ _ _ _ _ small room;
       area = search rules;
       total = end.total ∙ passed _ _ _ _ _ small room;
-      limit = c.walk-text-walked.ensures.limit;
+      limit = c.walk_text-walked.ensures.limit;
     }

@@ -6,11 +6,11 @@ use Rattle.walk.specs.Frames.{Applies, OpensBy, moved, state}
 use Rattle.walk.proofs.Walking.{walk_asks, walk_end, walk_nested, walk_nests, walk_on, walk_refused, walk_stop}
 use Rattle.walk.proofs.step.walk_frame.Goals as goal
 
-pub returns-in-err-step : goal.returns-in-err-step
-returns-in-err-step g c =
-    let e = c.in-err-step.ensures in
+pub returns-in_err-step : goal.returns-in_err-step
+returns-in_err-step g c =
+    let e = c.in_err-step.ensures in
     let inv = c.loop-step.invariant in
-    let p = err_from_is_err_and c.from-residual.result c.from-residual.ensures.1 in
+    let p = err_from_is_err_and c.from_residual.result c.from_residual.ensures.1 in
     rw (p.1, p.2) (record {
       frame = inv.frame;
       nested = tt;
@@ -18,53 +18,53 @@ returns-in-err-step g c =
       limit = ap (λ (v : WorkBudget). v.limit) e.work ∙ inv.limit;
     })
 
-pub apply-action-requires : goal.apply-action-requires
-apply-action-requires g c =
-    let e = c.in-ok-step.ensures in
+pub apply_action-requires : goal.apply_action-requires
+apply_action-requires g c =
+    let e = c.in_ok-step.ensures in
     walk_asks c.loop-step.invariant c.requires e.work _ c.in-Some.step c.in-Some.is e.says e.within e.asked
 
 pub returns : goal.returns
 returns g c =
-    let e = c.in-ok-step.ensures in
+    let e = c.in_ok-step.ensures in
     let inv = c.loop-step.invariant in
     record {
       frame = inv.frame;
       nested = tt;
-      goes = λ f lent whole left es r. walk_end inv c.requires e.work f lent whole left es r _ c.in-default.is e.says;
+      goes = λ f lent whole left es r. walk_end inv c.requires e.work f lent whole left es r _ c.in_default.is e.says;
       limit = ap (λ (v : WorkBudget). v.limit) e.work ∙ inv.limit;
     }
 
-pub returns-in-err-nested : goal.returns-in-err-nested
-returns-in-err-nested g c =
-    let e = c.in-ok-step.ensures in
-    let a = c.in-err-nested.ensures in
+pub returns-in_err-nested : goal.returns-in_err-nested
+returns-in_err-nested g c =
+    let e = c.in_ok-step.ensures in
+    let a = c.in_err-nested.ensures in
     let inv = c.loop-step.invariant in
-    let p = err_from_is_err_and c.from-residual-in-err-nested.result c.from-residual-in-err-nested.ensures.1 in
+    let p = err_from_is_err_and c.from_residual-in_err-nested.result c.from_residual-in_err-nested.ensures.1 in
     rw (p.1, p.2) (record {
       frame = ap (λ z. moved z c.in-Some.step.next) inv.frame;
       nested = tt;
-      goes = walk_refused inv c.requires e.work _ c.in-Some.step c.in-Some.is e.says e.within (state c.apply-action.new.work c.apply-action.new.marks c.apply-action.new.out) _ a.goes;
+      goes = walk_refused inv c.requires e.work _ c.in-Some.step c.in-Some.is e.says e.within (state c.apply_action.new.work c.apply_action.new.marks c.apply_action.new.out) _ a.goes;
       limit = a.limit ∙ ap (λ (v : WorkBudget). v.limit) e.work ∙ inv.limit;
     })
 
 pub returns-in-Some-2 : goal.returns-in-Some-2
 returns-in-Some-2 g c =
-    let e = c.in-ok-step.ensures in
-    let a = c.in-ok-nested.ensures in
+    let e = c.in_ok-step.ensures in
+    let a = c.in_ok-nested.ensures in
     let inv = c.loop-step.invariant in
     let n = c.in-Some-2.nested in
-    let st = state c.apply-action.new.work c.apply-action.new.marks c.apply-action.new.out in
+    let st = state c.apply_action.new.work c.apply_action.new.marks c.apply_action.new.out in
     let opens = subst (λ o. OpensBy (c.in-Some.step.next - 1) c.loop-step.frame.syntax c.in-Some.step.action (Ok o)) c.in-Some-2.is a.opens in
     record {
       frame = ap (λ z. moved z c.in-Some.step.next) inv.frame;
       nested = walk_nests inv c.requires e.work _ c.in-Some.step c.in-Some.is e.says e.within st n opens;
       goes = walk_nested inv c.requires e.work _ c.in-Some.step c.in-Some.is e.says e.within st n opens
-          (subst (λ o. (nested : ℕ → List ℕ → List Event → List Event) → Applies (g.S.PropertySource.means c.args.source.now) c.args.max-depth nested c.args.depth c.loop-step.frame.syntax (c.in-Some.step.next - 1) c.in-Some.step.action (state c.look-at.new.work c.loop-step.marks c.loop-step.out) st (Ok o)) c.in-Some-2.is a.goes);
+          (subst (λ o. (nested : ℕ → List ℕ → List Event → List Event) → Applies (g.S.PropertySource.means c.args.source.now) c.args.max_depth nested c.args.depth c.loop-step.frame.syntax (c.in-Some.step.next - 1) c.in-Some.step.action (state c.look_at.new.work c.loop-step.marks c.loop-step.out) st (Ok o)) c.in-Some-2.is a.goes);
       limit = a.limit ∙ ap (λ (v : WorkBudget). v.limit) e.work ∙ inv.limit;
     }
 
 pub loop-step-preserved : goal.loop-step-preserved
 loop-step-preserved g c =
-    let e = c.in-ok-step.ensures in
-    let a = c.in-ok-nested.ensures in
-    walk_on c.loop-step.invariant c.requires e.work _ c.in-Some.step c.in-Some.is e.says e.within (state c.apply-action.new.work c.apply-action.new.marks c.apply-action.new.out) _ c.in-default-2.is a.goes a.limit
+    let e = c.in_ok-step.ensures in
+    let a = c.in_ok-nested.ensures in
+    walk_on c.loop-step.invariant c.requires e.work _ c.in-Some.step c.in-Some.is e.says e.within (state c.apply_action.new.work c.apply_action.new.marks c.apply_action.new.out) _ c.in_default-2.is a.goes a.limit

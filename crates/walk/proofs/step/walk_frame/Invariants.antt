@@ -5,7 +5,7 @@ use Rattle.walk.proofs.step.walk_frame.Given as goal
 
 abbrev pub invariant-loop-step : goal.invariant-loop-step
 invariant-loop-step g l =
-    Walking (g.S.PropertySource.means l.source) l.max-depth l.text l.depth l.initial.frame (state l.initial.work l.initial.marks l.initial.out) l.frame (state l.work l.marks l.out)
+    Walking (g.S.PropertySource.means l.source) l.max_depth l.text l.depth l.initial.frame (state l.initial.work l.initial.marks l.initial.out) l.frame (state l.work l.marks l.out)
 
 abbrev pub decreases-loop-step : goal.decreases-loop-step
 decreases-loop-step g l = l.frame.end - l.frame.cursor
