@@ -4,7 +4,7 @@ use Rattle.budget.proofs.Calls.{went, broke}
 use Rattle.closes.proofs.ComposeLaws.{Goes, Seen, at_newline, at_close, less, more, other, scanning_on, seen_here, seen_before, skipped}
 use Rattle.closes.proofs.SearchLaws.{scan_ends, scan_over, scan_none}
 use Rattle.closes.proofs.compose.find_text_close.Goals as goal
-use Rattle.closes.proofs.compose.find_text_close.Goals.{Joined-byte-eq125, at·loop-offset-again, at·loop-offset-again-then-skip_next, then-byte-eq125, else-byte-eq125, in-125+else-depth-eq0, in-123, in_default}
+use Rattle.closes.proofs.compose.find_text_close.Goals.{Joined-byte-eq125, then-byte-eq125, else-byte-eq125, in-125+else-depth-eq0, in-123, in_default}
 
 pub returns-in_err-charge : goal.returns-in_err-charge
 returns-in_err-charge c =
@@ -31,7 +31,7 @@ pub loop-offset-preserved-then-skip_next : goal.loop-offset-preserved-then-skip_
 loop-offset-preserved-then-skip_next c =
     let e = c.in_ok-charge.ensures in
     let l = c.loop-offset in
-    let seen = latest (at·loop-offset-again-then-skip_next c).Joined-byte-eq125 in
+    let seen = latest (goal.at.loop-offset-preserved-then-skip_next c).Joined-byte-eq125 in
     scanning_on l.invariant c.loop-offset-test.true (went _ _ _ e.work tt e.says).0 (skipped l.invariant.low seen c.if-byte-eq-NEWLINE.false c.if-skip_next.true)
 
 pub returns-then-depth-eq0 : goal.returns-then-depth-eq0
@@ -48,7 +48,7 @@ loop-offset-preserved c =
     let l = c.loop-offset in
     let b = get_or c.args.text.now l.offset 0 in
     let s = c.if-skip_next.false in
-    let seen = latest (at·loop-offset-again c).Joined-byte-eq125 in
+    let seen = latest (goal.at.loop-offset-preserved c).Joined-byte-eq125 in
     let on : Goes l.depth l.skip_next l.last_close (c.args.start + l.offset) b c.match-byte.depth c.match-byte.skip_next c.if-byte-eq125.last_close
     = elim c.match-byte.branch [
       | in-125+else-depth-eq0 w ↦ less l.invariant.low seen w.in-125.is s w.if-depth-eq0.false w.depth-is w.skip_next-is
