@@ -23,7 +23,7 @@ put bytes n out = record { area = at_last out.area (laid_behind out.len bytes ou
 -- The output over a lent area holds a text: its length is counted, and as much of it as fits is at the front of the area.
 pub record Holds (out : Output) (lent : MutBor (List ℕ)) (text : List ℕ) : Type 0 where
   -- its area is the lent one, and as any memory that is shorter than 2^63 bytes
-  pub same : out.area.name ≡ lent.name
+  pub same : out.area.ghost_name ≡ lent.ghost_name
   pub size : length out.area.now ≡ length lent.now
   pub room : length lent.now < 2 ^ 63
   -- it holds the text

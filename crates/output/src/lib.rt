@@ -1,7 +1,7 @@
 #![tactic(auto)]
 
 ghost use Rattle.std.specs.Prelude.{◌≡◌, ℕ, List, [], ◌∷◌, length, take, replicate};
-ghost use Rattle.std.specs.Borrow.{Bor, MutBor};
+ghost use Rattle.std.specs.Borrow.{MutBor};
 ghost use Rattle.source.specs.Shapes.{bytes_of};
 ghost use Rattle.output.specs.Outputs.{Grows, Holds, begun, closed, fitted, put};
 
@@ -63,8 +63,8 @@ impl<'a> Output<'a> {
 
     // The value of a property more, `len` being its length; none where the name is unset.
     pub fn put_value<S: PropertySource>(&mut self, source: &S, name: &[u8], len: usize)
-        ensures puts { self.new ≡ put (bytes_of (means source.now name.now)) len self.old }
-        ensures grows { len ≡ length (bytes_of (means source.now name.now)) → Grows self.old (bytes_of (means source.now name.now)) self.new }
+        ensures puts { self.new ≡ put (bytes_of (S.PropertySource.means source.now name.now)) len self.old }
+        ensures grows { len ≡ length (bytes_of (S.PropertySource.means source.now name.now)) → Grows self.old (bytes_of (S.PropertySource.means source.now name.now)) self.new }
     {
         let at = self.len.min(self.area.len());
         source.lay_value(name, &mut self.area[at..]);
@@ -75,8 +75,8 @@ impl<'a> Output<'a> {
     pub fn finish(self) -> Result<usize, usize>
         ensures answer { result ≡ fitted (length self.entry.area.now) self.entry.len }
         ensures area { self.exit.0.now ≡ closed (length self.entry.area.now) self.entry.len (take self.entry.len self.entry.area.now) }
-        ensures says { (lent : Bor (List ℕ)) (text : List ℕ) → Holds self.entry lent text → result ≡ fitted (length lent.now) (length text) }
-        ensures holds { (lent : Bor (List ℕ)) (text : List ℕ) → Holds self.entry lent text → self.exit.0.now ≡ closed (length lent.now) (length text) text }
+        ensures says { (lent : MutBor (List ℕ)) (text : List ℕ) → Holds self.entry lent text → result ≡ fitted (length lent.now) (length text) }
+        ensures holds { (lent : MutBor (List ℕ)) (text : List ℕ) → Holds self.entry lent text → self.exit.0.now ≡ closed (length lent.now) (length text) text }
     {
         let Output { area, len } = self;
         if len > area.len() {
