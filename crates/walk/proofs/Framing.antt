@@ -1,5 +1,5 @@
 -- A frame, item by item.
-use Rattle.std.proofs.Common.{◌≡◌, ℕ, zero, suc, ◌+◌, ◌-◌, ◌<◌, ◌≤◌, Bool, true, false, List, [], ◌∷◌, ◌++◌, length, take, drop, Some, None, Ok, Err, Option, Result, sym, refl, ap, ◌∙◌, subst, ap₂, append_assoc, add-zero, arith, length-append, length-drop, take-append-drop, Bor}
+use Rattle.std.proofs.Common.{◌≡◌, ℕ, zero, suc, ◌+◌, ◌-◌, ◌<◌, ◌≤◌, Bool, true, false, List, [], ◌∷◌, ◌++◌, length, take, drop, Some, None, Ok, Err, Option, Result, sym, refl, ap, ◌∙◌, subst, ap₂, append_assoc, add-zero, arith, length-append, length-drop, take-append-drop, Bor, MutBor}
 use Rattle.std.proofs.lemmas.List.{drop-drop, drop-append-le, drop-take, length-take-le, take-take, take-append-le}
 use Rattle.budget.specs.declared.WorkBudget.{WorkBudget}
 use Rattle.budget.specs.Charges.{Work, taken, over, spent, works}
@@ -108,7 +108,7 @@ module _ (sh : List ℕ → Shape) (s : PropertySyntax) (w : WorkBudget) (i : �
   pub found_none : Ok None ≡ look sh s i w (drop i xs) → drop i xs ≡ []
   found_none e = none_in (drop i xs) refl e
 
-tells_plain : (out : Output) (lent : Bor (List ℕ)) (e : PropertyError) → Plain e → Tells out lent e []
+tells_plain : (out : Output) (lent : MutBor (List ℕ)) (e : PropertyError) → Plain e → Tells out lent e []
 tells_plain out lent (E.Unresolved name) p = refl
 tells_plain out lent (E.InvalidName part) p = refl
 tells_plain out lent (E.RequiredButUnset name len) p = absurd p
@@ -116,7 +116,7 @@ tells_plain out lent (E.RequiredButEmpty name len) p = absurd p
 tells_plain out lent (E.ExpansionDepthLimitExceeded depth limit) p = absurd p
 tells_plain out lent (E.ExpansionWorkLimitExceeded work limit) p = absurd p
 
-module _ {means : List ℕ → Option (List ℕ)} {deep : ℕ} {lent : Bor (List ℕ)} {whole : Outcome} {left : ℕ} {w w' : WorkBudget} {marks : Marks} {out : Output} (nested : ℕ → List ℕ → List Event → List Event) (d : ℕ) (s : PropertySyntax) (i : ℕ) (xs : List ℕ) (es : List Event)
+module _ {means : List ℕ → Option (List ℕ)} {deep : ℕ} {lent : MutBor (List ℕ)} {whole : Outcome} {left : ℕ} {w w' : WorkBudget} {marks : Marks} {out : Output} (nested : ℕ → List ℕ → List Event → List Event) (d : ℕ) (s : PropertySyntax) (i : ℕ) (xs : List ℕ) (es : List Event)
     (spends : w' ≡ spent w (charges_at (shapes means) s i (drop i xs))) (r : Reached means deep lent whole left (frame nested d s (shapes means) i (drop i xs) 0 es) (state w marks out)) where
   -- the frame's end
   pub reach_end : drop i xs ≡ [] → Reached means deep lent whole left es (state w' marks out)

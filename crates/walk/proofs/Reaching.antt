@@ -1,5 +1,5 @@
 -- A walk goes on: what each event makes of what it has reached.
-use Rattle.std.proofs.Common.{◌≡◌, ℕ, ◌+◌, ◌^◌, ◌<◌, ◌≤◌, Bool, true, false, cond, ◌||◌, eqb, ltb, List, [], ◌∷◌, ◌++◌, length, Some, Ok, Err, Option, Result, sym, refl, ap, ◌∙◌, subst, append-nil, arith, Bor}
+use Rattle.std.proofs.Common.{◌≡◌, ℕ, ◌+◌, ◌^◌, ◌<◌, ◌≤◌, Bool, true, false, cond, ◌||◌, eqb, ltb, List, [], ◌∷◌, ◌++◌, length, Some, Ok, Err, Option, Result, sym, refl, ap, ◌∙◌, subst, append-nil, arith, Bor, MutBor}
 use Rattle.std.proofs.lemmas.Bool.{cond-true, cond-false, le-ltb, lt-ltb}
 use Rattle.std.specs.Option.{option_map}
 use Rattle.budget.specs.declared.WorkBudget.{WorkBudget}
@@ -24,12 +24,12 @@ pub or_none : (b : Bool) → b || false ≡ b
 or_none true = refl
 or_none false = refl
 
-tells_missing : (lent : Bor (List ℕ)) (out : Output) (kind : Shape) (name : Span) (n : ℕ) (told : List ℕ) → Holds out lent told → Tells out lent (missing kind name n) told
+tells_missing : (lent : MutBor (List ℕ)) (out : Output) (kind : Shape) (name : Span) (n : ℕ) (told : List ℕ) → Holds out lent told → Tells out lent (missing kind name n) told
 tells_missing lent out unset name n told h = h
 tells_missing lent out empty name n told h = h
 tells_missing lent out filled name n told h = h
 
-module _ {means : List ℕ → Option (List ℕ)} {deep : ℕ} {lent : Bor (List ℕ)} {whole : Outcome} where
+module _ {means : List ℕ → Option (List ℕ)} {deep : ℕ} {lent : MutBor (List ℕ)} {whole : Outcome} where
   -- the same events
   pub reach_same : {left : ℕ} {es fs : List Event} {now : State} → es ≡ fs → Reached means deep lent whole left es now → Reached means deep lent whole left fs now
   reach_same {left} {es} {fs} {now} e r = subst (λ l. Reached means deep lent whole left l now) e r

@@ -1,5 +1,5 @@
 -- The frames that are open, with one more on top.
-use Rattle.std.proofs.Common.{◌≡◌, ℕ, suc, ◌+◌, ◌-◌, ◌*◌, ◌/◌, ◌<◌, ◌≤◌, Bool, true, false, cond, ltb, List, [], ◌∷◌, ◌++◌, length, is_ok, Some, None, Ok, Err, Option, Result, sym, refl, ap, ◌∙◌, subst, ap₂, add-zero, zero-add, arith, length-append, Bor}
+use Rattle.std.proofs.Common.{◌≡◌, ℕ, suc, ◌+◌, ◌-◌, ◌*◌, ◌/◌, ◌<◌, ◌≤◌, Bool, true, false, cond, ltb, List, [], ◌∷◌, ◌++◌, length, is_ok, Some, None, Ok, Err, Option, Result, sym, refl, ap, ◌∙◌, subst, ap₂, add-zero, zero-add, arith, length-append, Bor, MutBor}
 use Rattle.std.proofs.lemmas.Bool.{lt-ltb}
 use Rattle.std.specs.List.{slice_get}
 use Rattle.stack.specs.declared.Stack.{Stack}
@@ -105,7 +105,7 @@ module _ {text : List ℕ} {slots : ℕ} (xs : List ExpansionFrame) (x : Expansi
   fueled = omega (arith, deep_enough)
 
   -- how the events of the newest frame stand
-  module _ {means : List ℕ → Option (List ℕ)} {deep : ℕ} {lent : Bor (List ℕ)} {whole : Outcome} {now : State} (d : ℕ) (depth : d ≡ length xs + 1) where
+  module _ {means : List ℕ → Option (List ℕ)} {deep : ℕ} {lent : MutBor (List ℕ)} {whole : Outcome} {now : State} (d : ℕ) (depth : d ≡ length xs + 1) where
     pub reach_newest : Reached means deep lent whole (left (xs ++ x ∷ [])) (pending (shapes means) text 0 (xs ++ x ∷ []) []) now
         → Reached means deep lent whole (rest x + left xs) (frame_events (shapes means) text (suc fuel) d x (completed x.completion (part text x.start x.end) (pending (shapes means) text 0 xs []))) now
     reach_newest r =

@@ -11,11 +11,11 @@ use Rattle.walk.specs.Events.{Event, begin, charge, emits, events, first_dollar,
 use Rattle.walk.specs.Stacks.{Fit, pending}
 
 -- one definition of the first `$` and the other
-same_dollar : (i : ℕ) (bs : List ℕ) → Dollars.first-dollar i bs ≡ first_dollar i bs
+same_dollar : (i : ℕ) (bs : List ℕ) → Dollars.first_dollar i bs ≡ first_dollar i bs
 same_dollar i [] = refl
 same_dollar i (b ∷ bs) = ap (λ r. cond (eqb b 36) (Some i) r) (same_dollar (i + 1) bs)
 
-module _ (sh : List ℕ → Shape) (s : PropertySyntax) (text : List ℕ) (o : Option ℕ) (place : o ≡ Dollars.first-dollar 0 text) where
+module _ (sh : List ℕ → Shape) (s : PropertySyntax) (text : List ℕ) (o : Option ℕ) (place : o ≡ Dollars.first_dollar 0 text) where
   pub begins_plain : o ≡ None → events sh s text ≡ charge (length text) ∷ emits (literal text) []
   unfolding events
   begins_plain e = ap (begin sh s text) (sym (same_dollar 0 text) ∙ sym place ∙ e)

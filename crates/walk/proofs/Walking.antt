@@ -1,5 +1,5 @@
 -- A frame is walked on, step by step.
-use Rattle.std.proofs.Common.{◌≡◌, ℕ, suc, ◌+◌, ◌-◌, ◌≤◌, List, [], ◌∷◌, length, take, drop, Some, None, Ok, Err, Option, Result, sym, refl, ap, ◌∙◌, subst, ap₂, arith, Bor}
+use Rattle.std.proofs.Common.{◌≡◌, ℕ, suc, ◌+◌, ◌-◌, ◌≤◌, List, [], ◌∷◌, length, take, drop, Some, None, Ok, Err, Option, Result, sym, refl, ap, ◌∙◌, subst, ap₂, arith, Bor, MutBor}
 use Rattle.std.proofs.lemmas.List.{length-take-le, take-take}
 use Rattle.budget.specs.declared.WorkBudget.{WorkBudget}
 use Rattle.budget.specs.Charges.{spent}
@@ -65,7 +65,7 @@ module _ {means : List ℕ → Option (List ℕ)} {deep : ℕ} {text : List ℕ}
   at_place : (f k : ℕ) (es : List Event) → trace (suc f) d (shapes means) y.syntax k (part text k y.end) es ≡ frame (nested_by (shapes means) f d y.syntax) d y.syntax (shapes means) k (drop k xs) 0 es
   at_place f k es = trace_is (shapes means) f d y.syntax k (part text k y.end) es ∙ ap (λ e. frame (nested_by (shapes means) f d y.syntax) d y.syntax (shapes means) k (drop k (take e text)) 0 es) same_end
 
-  module _ (f : ℕ) (lent : Bor (List ℕ)) (whole : Outcome) (left : ℕ) (es : List Event) (r : Reached means deep lent whole (rest x + left) (frame_events (shapes means) text (suc f) d x es) before) where
+  module _ (f : ℕ) (lent : MutBor (List ℕ)) (whole : Outcome) (left : ℕ) (es : List Event) (r : Reached means deep lent whole (rest x + left) (frame_events (shapes means) text (suc f) d x es) before) where
     reached : Reached means deep lent whole (rest y + left) (frame (nested_by (shapes means) f d y.syntax) d y.syntax (shapes means) y.cursor (drop y.cursor xs) 0 es) (state w marks out)
     reached = reach_same (at_place f y.cursor es) (inv.goes f lent whole left es r)
 
@@ -96,7 +96,7 @@ module _ {means : List ℕ → Option (List ℕ)} {deep : ℕ} {text : List ℕ}
       abbrev Did : Result (Option ExpansionFrame) PropertyError → Type 0
       Did r = (nested : ℕ → List ℕ → List Event → List Event) → Applies means deep nested d y.syntax (p.next - 1) p.action (state w₁ marks out) after r
 
-      did : (r : Result (Option ExpansionFrame) PropertyError) → Did r → (f : ℕ) (lent : Bor (List ℕ)) (whole : Outcome) (left : ℕ) (es : List Event)
+      did : (r : Result (Option ExpansionFrame) PropertyError) → Did r → (f : ℕ) (lent : MutBor (List ℕ)) (whole : Outcome) (left : ℕ) (es : List Event)
           → Reached means deep lent whole (rest x + left) (frame_events (shapes means) text (suc f) d x es) before
           → Applied means deep (nested_by (shapes means) f d y.syntax) lent whole (rest (moved y p.next) + left) (frame (nested_by (shapes means) f d y.syntax) d y.syntax (shapes means) p.next (drop p.next xs) 0 es)
           (p.next - 1 - length (text_of p.action)) (text_of p.action) (completion_of p.action) after r
@@ -105,7 +105,7 @@ module _ {means : List ℕ → Option (List ℕ)} {deep : ℕ} {text : List ℕ}
           let on = reach_step N d y.syntax y.cursor xs es spends (reached f lent whole left es q) p step in
           applied N lent whole (rest (moved y p.next) + left) (frame N d y.syntax (shapes means) p.next (drop p.next xs) 0 es) (reach_less (room_of p.action + (rest (moved y p.next) + left)) (omega (arith, lies.room, size, same_end)) on)
 
-      pub walk_refused : (e : PropertyError) → Did (Err e) → (f : ℕ) (lent : Bor (List ℕ)) (whole : Outcome) (left : ℕ) (es : List Event)
+      pub walk_refused : (e : PropertyError) → Did (Err e) → (f : ℕ) (lent : MutBor (List ℕ)) (whole : Outcome) (left : ℕ) (es : List Event)
           → Reached means deep lent whole (rest x + left) (frame_events (shapes means) text (suc f) d x es) before → Stopped lent whole after e
       walk_refused e applied f lent whole left es q = did (Err e) applied f lent whole left es q
 
@@ -144,7 +144,7 @@ module _ {means : List ℕ → Option (List ℕ)} {deep : ℕ} {text : List ℕ}
             inside = omega (arith, size);
           })
 
-      walk_opened : p.next ≤ length xs → Did (Ok (Some opened)) → (f : ℕ) (lent : Bor (List ℕ)) (whole : Outcome) (left : ℕ) (es : List Event)
+      walk_opened : p.next ≤ length xs → Did (Ok (Some opened)) → (f : ℕ) (lent : MutBor (List ℕ)) (whole : Outcome) (left : ℕ) (es : List Event)
           → Reached means deep lent whole (rest x + left) (frame_events (shapes means) text (suc f) d x es) before → Framed means deep text lent whole f d left es (moved y p.next) after (Ok (Some opened))
       walk_opened inside applied f lent whole left es r =
           let completion = completion_of p.action in
@@ -156,7 +156,7 @@ module _ {means : List ℕ → Option (List ℕ)} {deep : ℕ} {text : List ℕ}
           reach_same (ap (λ v. T v behind) same ∙ ap (T (part text (close - length chosen) close)) (sym (at_place f p.next es)))
           (reach_less (rest opened + (rest (moved y p.next) + left)) (omega arith) (did (Ok (Some opened)) applied f lent whole left es r))
 
-      pub walk_nested : (n : ExpansionFrame) → OpensAt close y.syntax p.action n → Did (Ok (Some n)) → (f : ℕ) (lent : Bor (List ℕ)) (whole : Outcome) (left : ℕ) (es : List Event)
+      pub walk_nested : (n : ExpansionFrame) → OpensAt close y.syntax p.action n → Did (Ok (Some n)) → (f : ℕ) (lent : MutBor (List ℕ)) (whole : Outcome) (left : ℕ) (es : List Event)
           → Reached means deep lent whole (rest x + left) (frame_events (shapes means) text (suc f) d x es) before → Framed means deep text lent whole f d left es (moved y p.next) after (Ok (Some n))
       walk_nested n opens applied f lent whole left es r =
           let is = opens_is close y.syntax p.action n opens in

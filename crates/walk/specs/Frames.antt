@@ -1,6 +1,6 @@
 -- What the code of the walk keeps: how far the events have come.
 use Rattle.std.specs.Prelude.{◌≡◌, ℕ, suc, ◌+◌, ◌-◌, ◌^◌, ◌<◌, ◌≤◌, Bool, true, false, ◌||◌, List, [], ◌∷◌, length, take, drop, Some, None, Ok, Err, Option, Result, ◌==◌, nat_lt}
-use Rattle.std.specs.Borrow.{Bor}
+use Rattle.std.specs.Borrow.{MutBor}
 use Rattle.budget.specs.declared.WorkBudget.{WorkBudget}
 use Rattle.names.specs.declared.PropertySyntax.{PropertySyntax}
 use Rattle.source.specs.Shapes.{Shape, unset, empty, shapes, values}
@@ -43,7 +43,7 @@ abbrev pub state : WorkBudget → Marks → Output → State
 state work marks out = record { work = work; marks = marks; out = out }
 
 -- A walk whose outcome is `whole` has come so far that the events es are left. They put out at most `left` bytes of the text.
-pub record Reached (means : List ℕ → Option (List ℕ)) (deep : ℕ) (lent : Bor (List ℕ)) (whole : Outcome) (left : ℕ) (es : List Event) (now : State) : Type 0 where
+pub record Reached (means : List ℕ → Option (List ℕ)) (deep : ℕ) (lent : MutBor (List ℕ)) (whole : Outcome) (left : ℕ) (es : List Event) (now : State) : Type 0 where
   pub pieces : List Piece
   pub goes : run (shapes means) (record { depth = deep; work = now.work.limit }) now.work.total now.marks.changed pieces es ≡ whole
   pub marked : now.marks.shows ≡ shows (shapes means) pieces
@@ -51,7 +51,7 @@ pub record Reached (means : List ℕ → Option (List ℕ)) (deep : ℕ) (lent :
   pub few : length (literals pieces) + left < 2 ^ 64
 
 -- the output holds the message of a refusal that has one
-abbrev pub Tells : Output → Bor (List ℕ) → PropertyError → List ℕ → Type 0
+abbrev pub Tells : Output → MutBor (List ℕ) → PropertyError → List ℕ → Type 0
 Tells out lent (E.Unresolved name) told = told ≡ []
 Tells out lent (E.InvalidName part) told = told ≡ []
 Tells out lent (E.RequiredButUnset name len) told = Holds out lent told
@@ -60,7 +60,7 @@ Tells out lent (E.ExpansionDepthLimitExceeded depth limit) told = told ≡ []
 Tells out lent (E.ExpansionWorkLimitExceeded work limit) told = told ≡ []
 
 -- the walk stopped there
-pub record Stopped (lent : Bor (List ℕ)) (whole : Outcome) (now : State) (e : PropertyError) : Type 0 where
+pub record Stopped (lent : MutBor (List ℕ)) (whole : Outcome) (now : State) (e : PropertyError) : Type 0 where
   pub told : List ℕ
   pub is : whole ≡ stopped now.work.total e told
   pub tells : Tells now.out lent e told
@@ -148,42 +148,42 @@ open_events nested d at w completion es = nest d ∷ begun_by d completion (nest
 
 module _ (means : List ℕ → Option (List ℕ)) (deep : ℕ) where
   -- the walk went on, with es left; or it stopped
-  abbrev pub Goes : Bor (List ℕ) → Outcome → ℕ → List Event → State → Result (Unit {0}) PropertyError → Type 0
+  abbrev pub Goes : MutBor (List ℕ) → Outcome → ℕ → List Event → State → Result (Unit {0}) PropertyError → Type 0
   Goes lent whole left es now (Ok r) = Reached means deep lent whole left es now
   Goes lent whole left es now (Err e) = Stopped lent whole now e
 
   -- the walk went on, with es left; or a text that was selected is to be walked first; or it stopped
-  abbrev pub Applied : (ℕ → List ℕ → List Event → List Event) → Bor (List ℕ) → Outcome → ℕ → List Event → ℕ → List ℕ → FrameCompletion → State → Result (Option ExpansionFrame) PropertyError → Type 0
+  abbrev pub Applied : (ℕ → List ℕ → List Event → List Event) → MutBor (List ℕ) → Outcome → ℕ → List Event → ℕ → List ℕ → FrameCompletion → State → Result (Option ExpansionFrame) PropertyError → Type 0
   Applied nested lent whole left es at w completion now (Ok None) = Reached means deep lent whole left es now
   Applied nested lent whole left es at w completion now (Ok (Some y)) = Reached means deep lent whole (length w + left) (nested at w (completed completion w es)) now
   Applied nested lent whole left es at w completion now (Err e) = Stopped lent whole now e
 
   -- in any walk that is at the end of a message with the text w: the output holds the message, whose length is n
-  pub record Message (lent : Bor (List ℕ)) (w : List ℕ) (out : Output) (n : ℕ) (pieces : List Piece) : Type 0 where
+  pub record Message (lent : MutBor (List ℕ)) (w : List ℕ) (out : Output) (n : ℕ) (pieces : List Piece) : Type 0 where
     pub holds : Holds out lent (shown (shapes means) w pieces)
     pub len : n ≡ length (shown (shapes means) w pieces)
 
   abbrev pub TellsMessage : List ℕ → State → Output → ℕ → Type 0
   TellsMessage w before out n =
-      (lent : Bor (List ℕ)) (whole : Outcome) (left : ℕ) (es : List Event) (r : Reached means deep lent whole left es before) → Message lent w out n r.pieces
+      (lent : MutBor (List ℕ)) (whole : Outcome) (left : ℕ) (es : List Event) (r : Reached means deep lent whole left es before) → Message lent w out n r.pieces
 
   -- in any walk: events are passed; with them a frame's end; selected text; an action in a frame of the depth d
   abbrev pub Passes : (List Event → List Event) → State → State → Type 0
-  Passes events before after = (lent : Bor (List ℕ)) (whole : Outcome) (left : ℕ) (es : List Event) → Reached means deep lent whole left (events es) before → Reached means deep lent whole left es after
+  Passes events before after = (lent : MutBor (List ℕ)) (whole : Outcome) (left : ℕ) (es : List Event) → Reached means deep lent whole left (events es) before → Reached means deep lent whole left es after
 
   abbrev pub Ends : (ℕ → ℕ) → (List Event → List Event) → State → State → Result (Unit {0}) PropertyError → Type 0
   Ends room events before after r =
-      (lent : Bor (List ℕ)) (whole : Outcome) (left : ℕ) (es : List Event) → Reached means deep lent whole (room left) (events es) before → Goes lent whole left es after r
+      (lent : MutBor (List ℕ)) (whole : Outcome) (left : ℕ) (es : List Event) → Reached means deep lent whole (room left) (events es) before → Goes lent whole left es after r
 
   abbrev pub Selects : (ℕ → List ℕ → List Event → List Event) → (List Event → List Event) → ℕ → List ℕ → FrameCompletion → State → State → Result (Option ExpansionFrame) PropertyError → Type 0
   Selects nested events at w completion before after r =
-      (lent : Bor (List ℕ)) (whole : Outcome) (left : ℕ) (es : List Event)
+      (lent : MutBor (List ℕ)) (whole : Outcome) (left : ℕ) (es : List Event)
       → Reached means deep lent whole (length w + left) (events es) before
       → Applied nested lent whole left es at w completion after r
 
   abbrev pub Applies : (ℕ → List ℕ → List Event → List Event) → ℕ → PropertySyntax → ℕ → Action → State → State → Result (Option ExpansionFrame) PropertyError → Type 0
   Applies nested d s close a before after r =
-      (lent : Bor (List ℕ)) (whole : Outcome) (left : ℕ) (es : List Event)
+      (lent : MutBor (List ℕ)) (whole : Outcome) (left : ℕ) (es : List Event)
       → Reached means deep lent whole (room_of a + left) (acts nested d s (act_of close a) es) before
       → Applied nested lent whole left es (close - length (text_of a)) (text_of a) (completion_of a) after r
 
@@ -216,7 +216,7 @@ Nested k next n (Err e) = Unit {0}
 
 module _ (means : List ℕ → Option (List ℕ)) (deep : ℕ) (text : List ℕ) where
   -- the frame came to its end; or to y, where another is to be walked first; or the walk stopped
-  abbrev pub Framed : Bor (List ℕ) → Outcome → (f d left : ℕ) → List Event → ExpansionFrame → State → Result (Option ExpansionFrame) PropertyError → Type 0
+  abbrev pub Framed : MutBor (List ℕ) → Outcome → (f d left : ℕ) → List Event → ExpansionFrame → State → Result (Option ExpansionFrame) PropertyError → Type 0
   Framed lent whole f d left es y now (Ok None) = Reached means deep lent whole left es now
   Framed lent whole f d left es y now (Ok (Some x)) =
       Reached means deep lent whole (rest x + (rest y + left)) (frame_events (shapes means) text f (d + 1) x (completed x.completion (part text x.start x.end) (frame_events (shapes means) text (suc f) d y es))) now
@@ -225,13 +225,13 @@ module _ (means : List ℕ → Option (List ℕ)) (deep : ℕ) (text : List ℕ)
   -- a frame x of the depth d is walked, in any walk
   abbrev pub Frames : ℕ → ExpansionFrame → State → ExpansionFrame → State → Result (Option ExpansionFrame) PropertyError → Type 0
   Frames d x before y after r =
-      (f : ℕ) (lent : Bor (List ℕ)) (whole : Outcome) (left : ℕ) (es : List Event)
+      (f : ℕ) (lent : MutBor (List ℕ)) (whole : Outcome) (left : ℕ) (es : List Event)
       → Reached means deep lent whole (rest x + left) (frame_events (shapes means) text (suc f) d x es) before
       → Framed lent whole f d left es y after r
 
   -- it is walked on, from x to y
   abbrev pub Onward : ℕ → ExpansionFrame → State → ExpansionFrame → State → Type 0
   Onward d x before y after =
-      (f : ℕ) (lent : Bor (List ℕ)) (whole : Outcome) (left : ℕ) (es : List Event)
+      (f : ℕ) (lent : MutBor (List ℕ)) (whole : Outcome) (left : ℕ) (es : List Event)
       → Reached means deep lent whole (rest x + left) (frame_events (shapes means) text (suc f) d x es) before
       → Reached means deep lent whole (rest y + left) (frame_events (shapes means) text (suc f) d y es) after

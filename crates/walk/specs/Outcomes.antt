@@ -1,6 +1,6 @@
 -- What a call answers, and what its output area holds then.
 use Rattle.std.specs.Prelude.{◌≡◌, ℕ, ◌+◌, ◌/◌, Bool, true, false, cond, List, [], length, replicate, Ok, Err, Result, nat_le, nat_lt}
-use Rattle.std.specs.Borrow.{Bor}
+use Rattle.std.specs.Borrow.{MutBor}
 use Rattle.references.specs.declared.error.PropertyError.{PropertyError}
 use Rattle.references.specs.declared.error.PropertyError.TheVariants as E
 use Rattle.items.specs.Pieces.{spelled}
@@ -46,7 +46,7 @@ kept false text = []
 
 -- what was put out is kept, or cleared
 abbrev pub Settles : Bool → Output → Output → Type 0
-Settles keeps before after = (lent : Bor (List ℕ)) (text : List ℕ) → Holds before lent text → Holds after lent (kept keeps text)
+Settles keeps before after = (lent : MutBor (List ℕ)) (text : List ℕ) → Holds before lent text → Holds after lent (kept keeps text)
 
 -- the answer, by whether the text fits
 abbrev pub answer_fit : Result (Unit {0}) PropertyError → Bool → Result ℕ ℕ → Result Interpolated InterpolateError

@@ -1,6 +1,6 @@
 -- The frames that are open, the first opened at the front.
 use Rattle.std.specs.Prelude.{◌≡◌, ℕ, ◌+◌, ◌-◌, ◌*◌, ◌/◌, ◌<◌, ◌≤◌, List, [], ◌∷◌, length, Ok, Err, Option, Result}
-use Rattle.std.specs.Borrow.{Bor}
+use Rattle.std.specs.Borrow.{MutBor}
 use Rattle.names.specs.declared.PropertySyntax.{PropertySyntax}
 use Rattle.source.specs.Shapes.{Shape, shapes}
 use Rattle.references.specs.declared.error.PropertyError.{PropertyError}
@@ -55,11 +55,11 @@ Turns text slots xs ys (Err e) = Unit {0}
 -- in any walk: the frames xs are open, and then ys are; or it stopped
 abbrev pub Runs : (List ℕ → Option (List ℕ)) → ℕ → List ℕ → List ExpansionFrame → State → List ExpansionFrame → State → Result (Unit {0}) PropertyError → Type 0
 Runs means deep text xs before ys after r =
-    (lent : Bor (List ℕ)) (whole : Outcome)
+    (lent : MutBor (List ℕ)) (whole : Outcome)
     → Reached means deep lent whole (left xs) (pending (shapes means) text 0 xs []) before
     → Goes means deep lent whole (left ys) (pending (shapes means) text 0 ys []) after r
 
 -- a whole text, in any walk over it
 abbrev pub Walks : (List ℕ → Option (List ℕ)) → ℕ → PropertySyntax → List ℕ → State → State → Result (Unit {0}) PropertyError → Type 0
 Walks means deep s text before after r =
-    (lent : Bor (List ℕ)) (whole : Outcome) → Reached means deep lent whole (length text) (events (shapes means) s text) before → Goes means deep lent whole 0 [] after r
+    (lent : MutBor (List ℕ)) (whole : Outcome) → Reached means deep lent whole (length text) (events (shapes means) s text) before → Goes means deep lent whole 0 [] after r
