@@ -4,7 +4,7 @@ use Rattle.std.proofs.lemmas.List.{drop_all}
 use Rattle.std.proofs.lemmas.Bool.{cond-true, cond-false, eqb-true, ne_eqb}
 use Rattle.budget.specs.declared.WorkBudget.{WorkBudget}
 use Rattle.budget.specs.declared.WorkFault.{WorkFault}
-use Rattle.budget.specs.Charges.{Work, spent, total_of, works}
+use Rattle.budget.specs.Charges.{spent, total_of, works}
 use Rattle.budget.proofs.Calls.{Broke, Went, left_all, left_over}
 use Rattle.names.specs.declared.PropertySyntax.{PropertySyntax}
 use Rattle.source.specs.Shapes.{Shape}

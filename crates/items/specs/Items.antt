@@ -1,5 +1,5 @@
 -- What stands at a place of a frame. `$` is 36, `{` is 123.
-use Rattle.std.specs.Prelude.{ℕ, ◌+◌, ◌-◌, Bool, true, false, cond, ◌&&◌, ◌||◌, List, [], ◌∷◌, ◌++◌, length, Some, None, Option, ◌==◌}
+use Rattle.std.specs.Prelude.{ℕ, ◌+◌, ◌-◌, Bool, true, false, cond, ◌&&◌, ◌||◌, List, [], ◌∷◌, length, Some, None, Option, ◌==◌}
 use Rattle.names.specs.declared.PropertySyntax.{PropertySyntax}
 use Rattle.names.specs.declared.PropertySyntax.TheVariants.{Braced, BracedOrBare, DockerCompose}
 use Rattle.names.specs.Reads.{begins_name, name_at, name_looks}

@@ -8,10 +8,10 @@ use Rattle.budget.proofs.Calls.{Broke, Left, Paid, Went, left_all, left_at, left
 use Rattle.names.specs.declared.PropertySyntax.{PropertySyntax}
 use Rattle.names.specs.Names.{name_end}
 use Rattle.names.specs.Glyphs.{glyphs}
-use Rattle.names.specs.Reads.{name_at, name_looks, parts}
+use Rattle.names.specs.Reads.{name_at, name_looks}
 use Rattle.closes.specs.Closes.{close, close_looks}
 use Rattle.closes.specs.Fronts.{begins}
-use Rattle.references.specs.Braces.{Brace, brace, brace_looks, malformed, name_charges, unclosed, with_close, with_name}
+use Rattle.references.specs.Braces.{Brace, brace, brace_looks, name_charges, unclosed, with_close, with_name}
 use Rattle.references.specs.Operators.{Op, Operator, plain, operated, default, alternate, error, op_at}
 use Rattle.references.specs.Reads.{word_len}
 

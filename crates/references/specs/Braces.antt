@@ -1,5 +1,5 @@
 -- A reference in braces, by the bytes after its `${`.
-use Rattle.std.specs.Prelude.{ℕ, true, false, List, [], ◌++◌, length, take, Some, None, Option}
+use Rattle.std.specs.Prelude.{ℕ, true, false, List, [], ◌++◌, take, Some, None, Option}
 use Rattle.names.specs.declared.PropertySyntax.{PropertySyntax}
 use Rattle.names.specs.Reads.{name_at, name_looks}
 use Rattle.closes.specs.Closes.{close, close_looks}

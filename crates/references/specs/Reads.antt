@@ -3,7 +3,6 @@ use Rattle.std.specs.Prelude.{ℕ, ◌+◌, ◌<◌, ◌≤◌, length, Ok, Err,
 use Rattle.budget.specs.declared.WorkFault.{WorkFault}
 use Rattle.references.specs.declared.brace.BraceBody.{BraceBody}
 use Rattle.references.specs.declared.brace.BraceBody.TheVariants.{Unclosed, Malformed, Reference}
-use Rattle.references.specs.declared.op.BraceRef.{BraceRef}
 use Rattle.references.specs.Operators.{Op, plain, operated}
 use Rattle.references.specs.Braces.{Brace, unclosed, malformed, reference, op_of}
 

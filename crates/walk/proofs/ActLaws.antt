@@ -1,5 +1,5 @@
 -- What every item keeps: where its selected text lies, and how it refuses.
-use Rattle.std.proofs.Common.{◌≡◌, ℕ, suc, ◌+◌, ◌-◌, ◌≤◌, Bool, true, false, cond, eqb, List, [], ◌∷◌, ◌++◌, length, take, drop, Some, None, Option, sym, refl, ap, ◌∙◌, subst, append_assoc, arith, take-append-drop}
+use Rattle.std.proofs.Common.{◌≡◌, ℕ, suc, ◌+◌, ◌-◌, Bool, true, false, cond, eqb, List, [], ◌∷◌, ◌++◌, length, take, drop, Some, None, Option, sym, refl, ap, ◌∙◌, append_assoc, arith, take-append-drop}
 use Rattle.names.specs.declared.PropertySyntax.{PropertySyntax}
 use Rattle.names.specs.declared.PropertySyntax.TheVariants.{Braced, BracedOrBare, DockerCompose}
 use Rattle.names.specs.Names.{name_end}
@@ -10,10 +10,10 @@ use Rattle.closes.specs.Fronts.{begins}
 use Rattle.source.specs.Shapes.{Shape, unset, empty, filled}
 use Rattle.references.specs.declared.error.PropertyError.{PropertyError}
 use Rattle.references.specs.declared.error.PropertyError.TheVariants as E
-use Rattle.references.specs.Operators.{Op, plain, operated, Operator, default, alternate, error, Yield, value, nothing, word, refusal, posix, op_at}
-use Rattle.references.specs.Braces.{Brace, brace, reference, malformed, unclosed, with_close, with_name, with_op}
+use Rattle.references.specs.Operators.{plain, operated, Operator, default, alternate, error, Yield, value, nothing, word, refusal, posix, op_at}
+use Rattle.references.specs.Braces.{Brace, brace, reference, unclosed, with_close, with_name, with_op}
 use Rattle.items.specs.Pieces.{lit}
-use Rattle.items.specs.Items.{Act, keep, replace, select, require, refuse, Item, allows_bare, bare_act, bare_item, bare_more, brace_act, brace_more, braced_item, dollar, item, lenient, op_act, plain_act, second, yield_act}
+use Rattle.items.specs.Items.{Act, keep, replace, select, require, refuse, Item, allows_bare, bare_act, bare_item, bare_more, brace_act, brace_more, braced_item, dollar, item, plain_act, second, yield_act}
 
 -- the last bytes of a text
 pub record Tail (w xs : List ℕ) : Type 0 where

@@ -1,5 +1,5 @@
 -- How a walk ends.
-use Rattle.std.proofs.Common.{◌≡◌, ℕ, ◌≤◌, Bool, true, false, cond, leb, List, [], length, Ok, Err, Option, Result, sym, refl, ap, ◌∙◌, subst, arith, Bor, MutBor}
+use Rattle.std.proofs.Common.{◌≡◌, ℕ, ◌≤◌, Bool, true, false, cond, leb, List, [], length, Ok, Err, Option, Result, sym, refl, ap, ◌∙◌, subst, arith, MutBor}
 use Rattle.output.specs.declared.Output.{Output}
 use Rattle.output.specs.Outputs.{Holds, counted, fitted}
 use Rattle.walk.specs.declared.interpolate.Interpolated.{Interpolated}
@@ -14,7 +14,7 @@ use Rattle.references.specs.declared.error.PropertyError.TheVariants as E
 use Rattle.items.specs.Pieces.{spelled}
 use Rattle.walk.specs.declared.marks.Marks.{Marks}
 use Rattle.walk.specs.Events.{events}
-use Rattle.walk.specs.Walks.{Outcome, ended, run, stopped, walk}
+use Rattle.walk.specs.Walks.{Outcome, run, walk}
 use Rattle.walk.specs.Frames.{Goes, Reached, Tells, state}
 use Rattle.walk.specs.Outcomes.{Settles, answer_by, answer_fit, answer_left, fitting, frames_needed, has_message, has_text, kept, limits, text_left, total_left, unless_refused}
 

@@ -1,6 +1,6 @@
 -- A frame, item by item.
-use Rattle.std.proofs.Common.{◌≡◌, ℕ, zero, suc, ◌+◌, ◌-◌, ◌<◌, ◌≤◌, Bool, true, false, List, [], ◌∷◌, ◌++◌, length, take, drop, Some, None, Ok, Err, Option, Result, sym, refl, ap, ◌∙◌, subst, ap₂, append_assoc, add-zero, arith, length-append, length-drop, take-append-drop, Bor, MutBor}
-use Rattle.std.proofs.lemmas.List.{drop-drop, drop-append-le, drop-take, length-take-le, take-take, take-append-le}
+use Rattle.std.proofs.Common.{◌≡◌, ℕ, zero, suc, ◌+◌, ◌-◌, ◌≤◌, List, [], ◌∷◌, ◌++◌, length, take, drop, Some, None, Ok, Err, Option, Result, sym, refl, ap, ◌∙◌, subst, ap₂, append_assoc, add-zero, arith, length-append, take-append-drop, Bor, MutBor}
+use Rattle.std.proofs.lemmas.List.{drop-drop, drop-take, length-take-le, take-take}
 use Rattle.budget.specs.declared.WorkBudget.{WorkBudget}
 use Rattle.budget.specs.Charges.{Work, taken, over, spent, works}
 use Rattle.names.specs.declared.PropertySyntax.{PropertySyntax}
@@ -13,12 +13,12 @@ use Rattle.items.specs.declared.action.Action.TheVariants.{Keep, Dollar, Propert
 use Rattle.items.specs.declared.action.FrameCompletion.{FrameCompletion}
 use Rattle.items.specs.declared.action.FrameCompletion.TheVariants.{Root, Append, RequiredButUnset, RequiredButEmpty}
 use Rattle.items.specs.declared.action.Step.{Step}
-use Rattle.items.specs.Items.{Act, keep, replace, select, require, refuse, Item, inner, item}
+use Rattle.items.specs.Items.{Act, keep, replace, select, require, refuse, Item, item}
 use Rattle.items.specs.Looks.{Ends, Looked, act_of, acted, charges_at, judged, look, looking, some_looked, step_of, with_next}
 use Rattle.output.specs.declared.Output.{Output}
 use Rattle.walk.specs.declared.marks.Marks.{Marks}
-use Rattle.walk.specs.Events.{Event, acts, charges, frame, refused, trace}
-use Rattle.walk.specs.Walks.{Outcome, run, stopped}
+use Rattle.walk.specs.Events.{Event, acts, charges, frame}
+use Rattle.walk.specs.Walks.{Outcome, run}
 use Rattle.walk.specs.Frames.{Proper, Reached, Selectable, Stopped, Tells, room_of, state, text_of}
 use Rattle.walk.proofs.ActLaws.{Fine, Plain, Tail, item_fine}
 use Rattle.walk.proofs.Reaching.{reach_charges, reach_same, stop_charges}

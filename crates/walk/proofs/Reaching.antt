@@ -1,20 +1,19 @@
 -- A walk goes on: what each event makes of what it has reached.
-use Rattle.std.proofs.Common.{◌≡◌, ℕ, ◌+◌, ◌^◌, ◌<◌, ◌≤◌, Bool, true, false, cond, ◌||◌, eqb, ltb, List, [], ◌∷◌, ◌++◌, length, Some, Ok, Err, Option, Result, sym, refl, ap, ◌∙◌, subst, append-nil, arith, Bor, MutBor}
+use Rattle.std.proofs.Common.{◌≡◌, ℕ, ◌+◌, ◌^◌, ◌<◌, ◌≤◌, Bool, true, false, ◌||◌, List, [], ◌∷◌, ◌++◌, length, Some, Ok, Err, Option, Result, sym, refl, ap, ◌∙◌, subst, append-nil, arith, MutBor}
 use Rattle.std.proofs.lemmas.Bool.{cond-true, cond-false, le-ltb, lt-ltb}
 use Rattle.std.specs.Option.{option_map}
 use Rattle.budget.specs.declared.WorkBudget.{WorkBudget}
-use Rattle.budget.specs.Charges.{Work, taken, over, total_of, works, paid, spent}
+use Rattle.budget.specs.Charges.{taken, over, total_of, works, paid, spent}
 use Rattle.budget.specs.declared.WorkFault.{WorkFault}
 use Rattle.budget.proofs.Calls.{broke, went}
 use Rattle.source.specs.Shapes.{Shape, bytes_of, empty, filled, shapes, unset, values}
 use Rattle.references.specs.declared.error.Span.{Span}
-use Rattle.references.specs.declared.error.PropertyError.{PropertyError}
 use Rattle.references.specs.declared.error.PropertyError.TheVariants.{ExpansionDepthLimitExceeded, ExpansionWorkLimitExceeded}
 use Rattle.items.specs.Pieces.{Piece, val, literal, literals, shows, spelled}
 use Rattle.output.specs.declared.Output.{Output}
 use Rattle.output.specs.Outputs.{Grows, Holds}
 use Rattle.walk.specs.declared.marks.Marks.{Marks}
-use Rattle.walk.specs.Events.{Event, begins, charge, charges, emit, emits, message, nest, replaced, refused}
+use Rattle.walk.specs.Events.{Event, begins, charge, charges, emit, emits, message, nest, replaced}
 use Rattle.walk.specs.Walks.{Limits, Outcome, missing, run, shown, stopped}
 use Rattle.walk.specs.Frames.{Message, Reached, State, Stopped, Tells, marked_replaced, marked_shows, state}
 use Rattle.walk.proofs.Choosing.{len_of_value, shows_by_len}

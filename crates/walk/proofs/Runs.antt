@@ -2,7 +2,7 @@
 use Rattle.std.proofs.Common.{◌≡◌, ℕ, ◌+◌, Bool, true, false, cond, ◌||◌, ltb, List, [], ◌∷◌, ◌++◌, length, Some, None, Option, sym, refl, ap, ◌∙◌, append_assoc, append-nil, arith}
 use Rattle.budget.specs.Charges.{Work, taken, over, charged}
 use Rattle.budget.specs.Charges as Budget
-use Rattle.source.specs.Shapes.{Shape, unset, empty, filled}
+use Rattle.source.specs.Shapes.{Shape}
 use Rattle.source.specs.Shapes.{bytes_of, shape, shapes, values}
 use Rattle.references.specs.declared.error.PropertyError.TheVariants.{ExpansionWorkLimitExceeded}
 use Rattle.items.specs.Pieces.{Piece, lit, val, spelled, literal, literals, is_filled, shows}

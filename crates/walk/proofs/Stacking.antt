@@ -1,5 +1,5 @@
 -- The frames that are open, with one more on top.
-use Rattle.std.proofs.Common.{◌≡◌, ℕ, suc, ◌+◌, ◌-◌, ◌*◌, ◌/◌, ◌<◌, ◌≤◌, Bool, true, false, cond, ltb, List, [], ◌∷◌, ◌++◌, length, is_ok, Some, None, Ok, Err, Option, Result, sym, refl, ap, ◌∙◌, subst, ap₂, add-zero, zero-add, arith, length-append, Bor, MutBor}
+use Rattle.std.proofs.Common.{◌≡◌, ℕ, suc, ◌+◌, ◌-◌, ◌<◌, cond, ltb, List, [], ◌∷◌, ◌++◌, length, is_ok, None, Ok, Err, Option, Result, sym, refl, ap, ◌∙◌, subst, ap₂, add-zero, zero-add, arith, length-append, MutBor}
 use Rattle.std.proofs.lemmas.Bool.{lt-ltb}
 use Rattle.std.specs.List.{slice_get}
 use Rattle.stack.specs.declared.Stack.{Stack}
@@ -7,10 +7,10 @@ use Rattle.stack.specs.Held.{held, loan, memory, offered}
 use Rattle.references.specs.declared.error.PropertyError.{PropertyError}
 use Rattle.source.specs.Shapes.{Shape, shapes}
 use Rattle.walk.specs.declared.frame.ExpansionFrame.{ExpansionFrame}
-use Rattle.walk.specs.Events.{Event, trace}
+use Rattle.walk.specs.Events.{Event}
 use Rattle.walk.specs.Walks.{Outcome}
 use Rattle.walk.specs.Frames.{Nests, Reached, State, completed, frame_events, moved, part, rest}
-use Rattle.walk.specs.Stacks.{Fit, Runs, Sound, Sound1, Turned, Turns, events_at, left, measure, pending}
+use Rattle.walk.specs.Stacks.{Fit, Runs, Sound, Sound1, Turned, Turns, events_at, left, pending}
 use Rattle.walk.proofs.Reaching.{reach_less, reach_same}
 
 module _ (sh : List ℕ → Shape) (text : List ℕ) where

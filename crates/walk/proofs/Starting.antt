@@ -1,5 +1,5 @@
 -- How a walk begins.
-use Rattle.std.proofs.Common.{◌≡◌, ℕ, ◌+◌, ◌-◌, ◌*◌, ◌/◌, ◌<◌, ◌≤◌, cond, eqb, List, [], ◌∷◌, length, take, drop, Some, None, Option, sym, refl, ap, ◌∙◌, subst, ap₂, arith}
+use Rattle.std.proofs.Common.{◌≡◌, ℕ, ◌+◌, ◌-◌, ◌/◌, ◌<◌, cond, eqb, List, [], ◌∷◌, length, Some, None, Option, sym, refl, ap, ◌∙◌, ap₂, arith}
 use Rattle.std.proofs.lemmas.List.{take_all}
 use Rattle.names.specs.declared.PropertySyntax.{PropertySyntax}
 use Rattle.source.specs.Shapes.{Shape}
@@ -7,7 +7,7 @@ use Rattle.items.specs.declared.action.FrameCompletion.TheVariants.{Root}
 use Rattle.items.specs.Pieces.{literal}
 use Rattle.selected.specs.Dollars as Dollars
 use Rattle.walk.specs.declared.frame.ExpansionFrame.{ExpansionFrame}
-use Rattle.walk.specs.Events.{Event, begin, charge, emits, events, first_dollar, trace}
+use Rattle.walk.specs.Events.{begin, charge, emits, events, first_dollar, trace}
 use Rattle.walk.specs.Stacks.{Fit, pending}
 
 -- one definition of the first `$` and the other

@@ -1,5 +1,5 @@
 -- A frame is walked on, step by step.
-use Rattle.std.proofs.Common.{◌≡◌, ℕ, suc, ◌+◌, ◌-◌, ◌≤◌, List, [], ◌∷◌, length, take, drop, Some, None, Ok, Err, Option, Result, sym, refl, ap, ◌∙◌, subst, ap₂, arith, Bor, MutBor}
+use Rattle.std.proofs.Common.{◌≡◌, ℕ, suc, ◌+◌, ◌-◌, ◌≤◌, List, length, take, drop, Some, None, Ok, Err, Option, Result, sym, refl, ap, ◌∙◌, subst, arith, MutBor}
 use Rattle.std.proofs.lemmas.List.{length-take-le, take-take}
 use Rattle.budget.specs.declared.WorkBudget.{WorkBudget}
 use Rattle.budget.specs.Charges.{spent}
@@ -10,13 +10,13 @@ use Rattle.items.specs.declared.action.Action.{Action}
 use Rattle.items.specs.declared.action.Action.TheVariants.{Keep, Dollar, Property, Nothing, Interpolate}
 use Rattle.items.specs.declared.action.Step.{Step}
 use Rattle.items.specs.Items.{inner}
-use Rattle.items.specs.Looks.{AskedLook, Ends, Known, Stays, charges_at, look, looked_told, step_of}
+use Rattle.items.specs.Looks.{AskedLook, Ends, Stays, charges_at, look, looked_told}
 use Rattle.output.specs.declared.Output.{Output}
 use Rattle.walk.specs.declared.frame.ExpansionFrame.{ExpansionFrame}
 use Rattle.walk.specs.declared.marks.Marks.{Marks}
 use Rattle.walk.specs.Events.{Event, frame, trace}
 use Rattle.walk.specs.Walks.{Outcome}
-use Rattle.walk.specs.Frames.{Applied, Applies, Askable, Framed, Frames, Nests, Onward, OpensAt, Reached, State, Stopped, completed, completion_of, frame_events, frame_of, moved, part, rest, room_of, state, text_of}
+use Rattle.walk.specs.Frames.{Applied, Applies, Askable, Framed, Nests, Onward, OpensAt, Reached, State, Stopped, completed, completion_of, frame_events, frame_of, moved, part, rest, room_of, state, text_of}
 use Rattle.walk.proofs.Framing.{Found, Lies, found, found_lies, found_none, reach_end, reach_step, stop_look}
 use Rattle.walk.proofs.Reaching.{reach_less, reach_same}
 

@@ -1,5 +1,5 @@
 -- What a text means, by the shapes of names alone: a list of events, without any limit.
-use Rattle.std.specs.Prelude.{ℕ, zero, suc, ◌+◌, Bool, true, false, cond, ◌||◌, List, [], ◌∷◌, ◌++◌, length, Some, None, Option, ◌==◌}
+use Rattle.std.specs.Prelude.{ℕ, zero, suc, ◌+◌, Bool, true, false, cond, List, [], ◌∷◌, length, Some, None, Option, ◌==◌}
 use Rattle.names.specs.declared.PropertySyntax.{PropertySyntax}
 use Rattle.source.specs.Shapes.{Shape}
 use Rattle.references.specs.declared.error.Span.{Span}

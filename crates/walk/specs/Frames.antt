@@ -1,5 +1,5 @@
 -- What the code of the walk keeps: how far the events have come.
-use Rattle.std.specs.Prelude.{◌≡◌, ℕ, suc, ◌+◌, ◌-◌, ◌^◌, ◌<◌, ◌≤◌, Bool, true, false, ◌||◌, List, [], ◌∷◌, length, take, drop, Some, None, Ok, Err, Option, Result, ◌==◌, nat_lt}
+use Rattle.std.specs.Prelude.{◌≡◌, ℕ, suc, ◌+◌, ◌-◌, ◌^◌, ◌<◌, ◌≤◌, ◌||◌, List, [], ◌∷◌, length, take, drop, Some, None, Ok, Err, Option, Result, ◌==◌, nat_lt}
 use Rattle.std.specs.Borrow.{MutBor}
 use Rattle.budget.specs.declared.WorkBudget.{WorkBudget}
 use Rattle.names.specs.declared.PropertySyntax.{PropertySyntax}
@@ -18,7 +18,7 @@ use Rattle.output.specs.Outputs.{Holds}
 use Rattle.walk.specs.declared.frame.ExpansionFrame.{ExpansionFrame}
 use Rattle.walk.specs.declared.marks.Marks.{Marks}
 use Rattle.walk.specs.Events.{Event, acts, begins, emits, message, nest, replaced, trace}
-use Rattle.walk.specs.Walks.{Limits, Outcome, run, shown, stopped}
+use Rattle.walk.specs.Walks.{Outcome, run, shown, stopped}
 
 abbrev pub marked_replaced : ℕ → Marks → Marks
 marked_replaced depth marks = record { changed = marks.changed || (depth == 1); shows = marks.shows }

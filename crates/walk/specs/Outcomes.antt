@@ -1,5 +1,5 @@
 -- What a call answers, and what its output area holds then.
-use Rattle.std.specs.Prelude.{◌≡◌, ℕ, ◌+◌, ◌/◌, Bool, true, false, cond, List, [], length, replicate, Ok, Err, Result, nat_le, nat_lt}
+use Rattle.std.specs.Prelude.{ℕ, ◌+◌, ◌/◌, Bool, true, false, cond, List, [], length, replicate, Ok, Err, Result, nat_le, nat_lt}
 use Rattle.std.specs.Borrow.{MutBor}
 use Rattle.references.specs.declared.error.PropertyError.{PropertyError}
 use Rattle.references.specs.declared.error.PropertyError.TheVariants as E

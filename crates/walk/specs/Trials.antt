@@ -1,5 +1,5 @@
 -- Worked examples, by computation: A is unset, E is empty, any other name is filled.
-use Rattle.std.specs.Prelude.{◌≡◌, ℕ, Bool, true, false, cond, List, [], ◌∷◌, codes, ◌==◌, refl}
+use Rattle.std.specs.Prelude.{◌≡◌, ℕ, true, false, cond, List, [], ◌∷◌, codes, ◌==◌, refl}
 use Rattle.names.specs.Glyphs.{glyphs}
 use Rattle.names.specs.declared.PropertySyntax.TheVariants.{Braced, BracedOrBare, DockerCompose}
 use Rattle.source.specs.Shapes.{Shape, unset, empty, filled}
@@ -7,7 +7,7 @@ use Rattle.references.specs.declared.error.PropertyError.TheVariants.{InvalidNam
 use Rattle.items.specs.Pieces.{Piece, lit, val, literal}
 use Rattle.items.specs.Items.{item, span}
 use Rattle.walk.specs.Events.{frame, trace, events}
-use Rattle.walk.specs.Walks.{Limits, Outcome, ended, stopped, run, walk}
+use Rattle.walk.specs.Walks.{Limits, ended, stopped, run, walk}
 
 abbrev pub trial_shape : List ℕ → Shape
 trial_shape [] = unset

@@ -1,4 +1,4 @@
-use Rattle.std.proofs.Common.{◌≡◌, length, Some, Ok, sym, ap, ◌∙◌, arith, rules}
+use Rattle.std.proofs.Common.{◌≡◌, Some, Ok, sym, ap, ◌∙◌, arith, rules}
 use Rattle.budget.specs.Charges.{paid, spent}
 use Rattle.budget.proofs.Calls.{went}
 use Rattle.names.specs.declared.PropertySyntax.TheVariants.{Braced}

@@ -1,12 +1,11 @@
-use Rattle.std.proofs.Common.{◌≡◌, ◌<◌, length, take, Some, None, Err, sym, refl, ap, ◌∙◌, arith}
+use Rattle.std.proofs.Common.{◌≡◌, ◌<◌, length, take, Some, sym, refl, ap, ◌∙◌, arith}
 use Rattle.std.proofs.lemmas.List.{length-take}
 use Rattle.std.proofs.lemmas.Result.{err_from_is_err_and}
 use Rattle.budget.proofs.Calls.{broke, went}
 use Rattle.names.specs.Reads.{both, name_at, name_looks}
 use Rattle.closes.specs.Closes.{close, close_looks}
 use Rattle.references.specs.Braces.{with_op}
-use Rattle.references.specs.Reads.{Within, brace_told}
-use Rattle.references.proofs.BraceLaws.{close_over, inside, name_fills, name_over, named, no_close, op_fits}
+use Rattle.references.proofs.BraceLaws.{close_over, inside, name_fills, name_over, named, op_fits}
 use Rattle.references.proofs.brace.parse_braced_reference.Goals as goal
 
 pub returns-in_err-close : goal.returns-in_err-close

@@ -1,6 +1,5 @@
-use Rattle.std.proofs.Common.{List, ap, subst}
+use Rattle.std.proofs.Common.{subst}
 use Rattle.source.specs.Shapes.{empty, unset}
-use Rattle.items.specs.declared.action.FrameCompletion.{FrameCompletion}
 use Rattle.walk.specs.Frames.{Reached, completed, state}
 use Rattle.walk.proofs.Reaching.{stop_message}
 use Rattle.walk.proofs.apply.complete_frame.Goals as goal

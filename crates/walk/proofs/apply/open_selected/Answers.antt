@@ -1,5 +1,3 @@
-use Rattle.std.proofs.Common.{◌≡◌, sym, refl, ap, arith}
-use Rattle.walk.specs.Frames.{frame_of}
 use Rattle.walk.proofs.Reaching.{reach_nest, stop_nest}
 use Rattle.walk.proofs.apply.open_selected.Goals as goal
 

@@ -1,7 +1,3 @@
-use Rattle.std.proofs.Common.{◌≡◌, length, sym, refl, ap, ◌∙◌, arith}
-use Rattle.source.specs.Shapes.{shapes, values}
-use Rattle.items.specs.Pieces.{literal}
-use Rattle.walk.proofs.Runs.{literals_literal, shows_literal, spelled_literal}
 use Rattle.walk.proofs.Reaching.{reach_literal}
 use Rattle.walk.proofs.apply.put_selected.Goals as goal
 

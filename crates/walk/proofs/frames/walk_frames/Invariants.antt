@@ -1,5 +1,4 @@
-use Rattle.std.proofs.Common.{length}
-use Rattle.stack.specs.Held.{held, loan, memory}
+use Rattle.stack.specs.Held.{held}
 use Rattle.walk.specs.Frames.{state}
 use Rattle.walk.specs.Stacks.{measure}
 use Rattle.walk.proofs.Stacking.{Walked}

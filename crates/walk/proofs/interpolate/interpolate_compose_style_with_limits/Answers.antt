@@ -1,8 +1,8 @@
-use Rattle.std.proofs.Common.{◌≡◌, ℕ, List, length, replicate, sym, refl, ap, ◌∙◌, arith, rules}
+use Rattle.std.proofs.Common.{ℕ, List, length, replicate, sym, ◌∙◌, rules}
 use Rattle.source.specs.Shapes.{shapes}
 use Rattle.walk.specs.Outcomes.{limits}
 use Rattle.walk.specs.Walks.{walk}
-use Rattle.walk.proofs.Finishing.{EndOf, end_of, passed, start}
+use Rattle.walk.proofs.Finishing.{end_of, passed, start}
 use Rattle.walk.proofs.interpolate.interpolate_compose_style_with_limits.Goals as goal
 
 pub returns : goal.returns
