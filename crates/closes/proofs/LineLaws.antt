@@ -3,7 +3,7 @@ use Rattle.std.proofs.Common.{◌≡◌, ℕ, ◌+◌, ◌<◌, true, false, ◌
 use Rattle.std.proofs.lemmas.Slice.Eq.{bytes_eq-Decides}
 use Rattle.std.proofs.lemmas.List.{take-append-drop, take_at, drop_at}
 use Rattle.std.proofs.lemmas.Bool.{and_parts, both_ways, cases_Bool, cases_eq, cond-true, cond-false, eqb-true, eq-eqb, ne_eqb, or_cases, or_left, or_right}
-use Rattle.std.specs.List.{AllByRecursion as All}
+use Rattle.std.specs.List.{AllByRecursion}
 use Rattle.std.specs.Str.{bytes_eq}
 use Rattle.names.specs.declared.PropertySyntax.TheVariants.{DockerCompose}
 use Rattle.names.specs.Reads.{name_at}
@@ -48,7 +48,7 @@ record Line (i : ℕ) (bs : List ℕ) (k : ℕ) : Type 0 where
   text : List ℕ
   behind : List ℕ
   whole : bs ≡ text ++ 125 ∷ behind
-  line : All (λ b. b ≡ 10 → ⊥) text
+  line : AllByRecursion (λ b. b ≡ 10 → ⊥) text
   place : k ≡ i + length text
 
 line_here : (i k b : ℕ) (bs : List ℕ) → b ≡ 125 → i ≡ k → Line i (b ∷ bs) k
@@ -90,7 +90,7 @@ text_line (b ∷ bs) l i k e = go (step l i b) (λ m. text_line bs m (i + 1) k)
 line_parts : (i k b : ℕ) (bs : List ℕ) → Line i (b ∷ bs) k → (b ≡ 125) ⊎ ((b ≡ 10 → ⊥) × Line (i + 1) bs k)
 line_parts i k b bs p = go p.text p.whole p.line p.place
   where
-    go : (text : List ℕ) → b ∷ bs ≡ text ++ 125 ∷ p.behind → All (λ x. x ≡ 10 → ⊥) text → k ≡ i + length text → (b ≡ 125) ⊎ ((b ≡ 10 → ⊥) × Line (i + 1) bs k)
+    go : (text : List ℕ) → b ∷ bs ≡ text ++ 125 ∷ p.behind → AllByRecursion (λ x. x ≡ 10 → ⊥) text → k ≡ i + length text → (b ≡ 125) ⊎ ((b ≡ 10 → ⊥) × Line (i + 1) bs k)
     go [] e h n = inl (cc)
     go (x ∷ xs) e h n =
         let same : b ≡ x = cc in
@@ -236,7 +236,7 @@ module _ (n : ℕ) (operator text behind : List ℕ) (h : close_behind n (operat
       let some : Some n ≡ None = sym (cond-true _ _ _ b) ∙ h in
       let y : ◌≡◌ {A = ℕ} 0 1 = cc in omega arith
 
-  no_line : is_operator operator ≡ true → All (λ b. b ≡ 10 → ⊥) text → begins (125 ∷ []) (operator ++ (text ++ 125 ∷ behind)) ≡ false → ⊥
+  no_line : is_operator operator ≡ true → AllByRecursion (λ b. b ≡ 10 → ⊥) text → begins (125 ∷ []) (operator ++ (text ++ 125 ∷ behind)) ≡ false → ⊥
   no_line o l b =
       let rest = operator ++ (text ++ 125 ∷ behind) in
       let len = operator_len operator (text ++ 125 ∷ behind) o in

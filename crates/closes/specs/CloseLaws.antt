@@ -1,6 +1,6 @@
 -- What stands before a close. `$` is 36, `{` is 123, `}` is 125, a newline is 10.
 use Rattle.std.specs.Prelude.{◌≡◌, ℕ, ◌+◌, Bool, true, false, ◌||◌, ◌⊎◌, List, [], ◌∷◌, ◌++◌, length, Some, None, ◌≢◌}
-use Rattle.std.specs.List.{AllByRecursion as All}
+use Rattle.std.specs.List.{AllByRecursion}
 use Rattle.names.specs.declared.PropertySyntax.{PropertySyntax}
 use Rattle.names.specs.declared.PropertySyntax.TheVariants.{Braced, BracedOrBare, DockerCompose}
 use Rattle.names.specs.Reads.{name_at}
@@ -33,7 +33,7 @@ pub record ComposeClose (bs : List ℕ) (k : ℕ) : Type 0 where
   pub behind : List ℕ
   pub named : name_at DockerCompose bs ≡ Some (name, operator ++ (text ++ 125 ∷ behind))
   pub follows : (is_operator operator ≡ true) ⊎ ((operator ≡ []) × (text ≡ []))
-  pub line : All (λ b. b ≢ 10) text
+  pub line : AllByRecursion (λ b. b ≢ 10) text
   pub place : k ≡ length name + length operator + length text
 
 -- what a close is in each syntax

@@ -1,6 +1,6 @@
 -- Under limits that no walk over the text comes to, none is refused for a limit.
 use Rattle.std.proofs.Common.{◌≡◌, ℕ, zero, suc, ◌+◌, ◌-◌, ◌^◌, ◌<◌, ◌≤◌, Bool, true, false, ◌||◌, eqb, List, [], ◌∷◌, ◌++◌, length, Some, None, Option, refl, ap, ◌∙◌, arith}
-use Rattle.std.specs.List.{AllByRecursion as All}
+use Rattle.std.specs.List.{AllByRecursion}
 use Rattle.budget.specs.Charges.{charged}
 use Rattle.names.specs.declared.PropertySyntax.{PropertySyntax}
 use Rattle.source.specs.Shapes.{Shape, unset, empty, filled}
@@ -33,7 +33,7 @@ module _ (most : Limits) where
   Calm (message v name source) = Unit {0}
   Calm (refused e) = is_limit e ≡ false
 
-  calm_run : (sh : List ℕ → Shape) → 2 ^ 64 - 1 ≤ most.work → (es : List Event) (t : ℕ) (c : Bool) (ps : List Piece) → All Calm es → at_limit (run sh most t c ps es) ≡ false
+  calm_run : (sh : List ℕ → Shape) → 2 ^ 64 - 1 ≤ most.work → (es : List Event) (t : ℕ) (c : Bool) (ps : List Piece) → AllByRecursion Calm es → at_limit (run sh most t c ps es) ≡ false
   unfolding run
   calm_run sh roomy [] t c ps h = refl
   calm_run sh roomy (charge k ∷ es) t c ps h = ap at_limit (run_charge sh most roomy k t c ps es) ∙ calm_run sh roomy es (charged t k) c ps h.1
@@ -44,32 +44,32 @@ module _ (most : Limits) where
   calm_run sh roomy (message v name source ∷ es) t c ps h = missing_free v name _
   calm_run sh roomy (refused e ∷ es) t c ps h = h.0
 
-  calm_charges : (ks : List ℕ) (es : List Event) → All Calm es → All Calm (charges ks es)
+  calm_charges : (ks : List ℕ) (es : List Event) → AllByRecursion Calm es → AllByRecursion Calm (charges ks es)
   calm_charges [] es h = h
   calm_charges (k ∷ ks) es h = (tt, calm_charges ks es h)
 
-  calm_emits : (ps : List Piece) (es : List Event) → All Calm es → All Calm (emits ps es)
+  calm_emits : (ps : List Piece) (es : List Event) → AllByRecursion Calm es → AllByRecursion Calm (emits ps es)
   calm_emits [] es h = h
   calm_emits (p ∷ ps) es h = (tt, calm_emits ps es h)
 
   module _ (walk_in : ℕ → List ℕ → List Event → List Event) (d : ℕ) (s : PropertySyntax) (f : ℕ) (shallow : d + f ≤ most.depth + 1)
-      (calm_in : (at : ℕ) (w : List ℕ) (es : List Event) → length w < f → All Calm es → All Calm (walk_in at w es)) where
-    calm_selected : (b : Bool) (at : ℕ) (w : List ℕ) (es : List Event) → length w < f → All Calm es → All Calm (selected walk_in d s b at w es)
+      (calm_in : (at : ℕ) (w : List ℕ) (es : List Event) → length w < f → AllByRecursion Calm es → AllByRecursion Calm (walk_in at w es)) where
+    calm_selected : (b : Bool) (at : ℕ) (w : List ℕ) (es : List Event) → length w < f → AllByRecursion Calm es → AllByRecursion Calm (selected walk_in d s b at w es)
     calm_selected true at w es l h = (omega arith, (tt, calm_in at w es l h))
     calm_selected false at w es l h = (tt, calm_emits (literal w) es h)
 
-    calm_explained : (b : Bool) (at : ℕ) (w : List ℕ) (es : List Event) → length w < f → All Calm es → All Calm (explained walk_in d s b at w es)
+    calm_explained : (b : Bool) (at : ℕ) (w : List ℕ) (es : List Event) → length w < f → AllByRecursion Calm es → AllByRecursion Calm (explained walk_in d s b at w es)
     calm_explained true at w es l h = (omega arith, (tt, calm_in at w es l h))
     calm_explained false at w es l h = (tt, calm_emits (literal w) es h)
 
-    calm_acts : (a : Act) (es : List Event) → length (act_word a) < f → Mild a → All Calm es → All Calm (acts walk_in d s a es)
+    calm_acts : (a : Act) (es : List Event) → length (act_word a) < f → Mild a → AllByRecursion Calm es → AllByRecursion Calm (acts walk_in d s a es)
     calm_acts (keep b) es l m h = (tt, h)
     calm_acts (replace ps) es l m h = (tt, calm_emits ps es h)
     calm_acts (select at w) es l m h = (tt, calm_selected (expands s w) at w es l h)
     calm_acts (require v name at w) es l m h = (tt, calm_explained (expands s w) at w (message v name w ∷ []) l (tt, tt))
     calm_acts (refuse e) es l m h = (m, tt)
 
-    calm_frame : (sh : List ℕ → Shape) (i : ℕ) (bs : List ℕ) (k : ℕ) (es : List Event) → length bs ≤ f → All Calm es → All Calm (frame walk_in d s sh i bs k es)
+    calm_frame : (sh : List ℕ → Shape) (i : ℕ) (bs : List ℕ) (k : ℕ) (es : List Event) → length bs ≤ f → AllByRecursion Calm es → AllByRecursion Calm (frame walk_in d s sh i bs k es)
     unfolding frame
     calm_frame sh i [] k es l h = h
     calm_frame sh i (b ∷ bs) (suc k) es l h = calm_frame sh (i + 1) bs k es (omega arith) h
@@ -77,14 +77,14 @@ module _ (most : Limits) where
         let it : Item = item sh s i b bs in
         calm_charges it.looks _ (calm_acts it.act _ (omega (arith, item_word sh s i b bs)) (item_mild sh s i b bs) (calm_frame sh (i + 1) bs it.more es (omega arith) h))
 
-  calm_trace : (f d : ℕ) (sh : List ℕ → Shape) (s : PropertySyntax) (i : ℕ) (bs : List ℕ) (es : List Event) → d + f ≤ most.depth + 1 → length bs ≤ f → All Calm es
-      → All Calm (trace f d sh s i bs es)
+  calm_trace : (f d : ℕ) (sh : List ℕ → Shape) (s : PropertySyntax) (i : ℕ) (bs : List ℕ) (es : List Event) → d + f ≤ most.depth + 1 → length bs ≤ f → AllByRecursion Calm es
+      → AllByRecursion Calm (trace f d sh s i bs es)
   unfolding trace
   calm_trace zero d sh s i bs es g l h = calm_frame (λ at w rest. rest) d s 0 g (λ at w es m j. j) sh i bs 0 es l h
   calm_trace (suc f) d sh s i bs es g l h =
       calm_frame (λ at w rest. trace f (d + 1) sh (inner s) at w rest) d s (suc f) g (λ at w es m j. calm_trace f (d + 1) sh (inner s) at w es (omega arith) (omega arith) j) sh i bs 0 es l h
 
-  calm_begin : (sh : List ℕ → Shape) (s : PropertySyntax) (text : List ℕ) (o : Option ℕ) → length text ≤ most.depth → All Calm (begin sh s text o)
+  calm_begin : (sh : List ℕ → Shape) (s : PropertySyntax) (text : List ℕ) (o : Option ℕ) → length text ≤ most.depth → AllByRecursion Calm (begin sh s text o)
   calm_begin sh s text None h = (tt, calm_emits (literal text) [] tt)
   calm_begin sh s text (Some i) h = (tt, calm_trace (length text) 1 sh s 0 text [] (omega arith) (omega arith) tt)
 

@@ -7,7 +7,7 @@ use Rattle.std.proofs.lemmas.Bool.{and_from, and_left, and_parts, cond-true, con
 use Rattle.std.proofs.lemmas.Str.{length-encode, len_utf8_bounds}
 use Rattle.std.proofs.lemmas.Bool.Decides.{nat_tests}
 use Rattle.std.specs.Char.{len_utf8}
-use Rattle.std.specs.List.{AllByRecursion as All}
+use Rattle.std.specs.List.{AllByRecursion}
 use Rattle.names.specs.declared.PropertySyntax.{PropertySyntax}
 use Rattle.names.specs.declared.PropertySyntax.TheVariants.{Braced, BracedOrBare, DockerCompose}
 use Rattle.names.specs.Glyphs.{first, glyphs, wide}
@@ -124,7 +124,7 @@ reads_op (operated error false w) = cond-false _ _ _ (not_empty 63 w)
 abbrev Inert : ℕ → Type 0
 Inert b = (b ≡ 36 → ⊥) × (b ≡ 125 → ⊥)
 
-symbol_inert : (o : Operator) (colon : Bool) → All Inert (symbol o colon)
+symbol_inert : (o : Operator) (colon : Bool) → AllByRecursion Inert (symbol o colon)
 symbol_inert default true = omega arith
 symbol_inert default false = omega arith
 symbol_inert alternate true = omega arith
@@ -132,7 +132,7 @@ symbol_inert alternate false = omega arith
 symbol_inert error true = omega arith
 symbol_inert error false = omega arith
 
-written_inert : (s : PropertySyntax) (op : Op) → Simple s (word_of op) → All Inert (written_op op)
+written_inert : (s : PropertySyntax) (op : Op) → Simple s (word_of op) → AllByRecursion Inert (written_op op)
 written_inert s plain h = tt
 written_inert s (operated o colon w) h = All-append Inert (symbol o colon) w (symbol_inert o colon) (All-weaker _ Inert (λ b p. (p.0, p.1)) w h)
 
@@ -142,17 +142,17 @@ ascii Braced c n h = (grind (arith, nat_tests), (λ e. grind (arith, nat_tests),
 ascii BracedOrBare c n h = (grind (arith, nat_tests), (λ e. grind (arith, nat_tests), λ e. grind (arith, nat_tests)))
 ascii DockerCompose c n h = absurd (n refl)
 
-name_inert : (s : PropertySyntax) (cs : List ℕ) → (s ≡ DockerCompose → ⊥) → all_continue s cs ≡ true → All Inert (encodes cs)
+name_inert : (s : PropertySyntax) (cs : List ℕ) → (s ≡ DockerCompose → ⊥) → all_continue s cs ≡ true → AllByRecursion Inert (encodes cs)
 unfolding encode
 name_inert s [] n h = tt
 name_inert s (c ∷ cs) n h =
     let p = and_parts (continues s c) _ h in
     let q = ascii s c n p.0 in
     let one : encode c ≡ c ∷ [] = cond-true _ _ _ (lt-ltb c 128 q.0) in
-    subst (λ bs. All Inert (bs ++ encodes cs)) (sym one) (q.1, name_inert s cs n p.1)
+    subst (λ bs. AllByRecursion Inert (bs ++ encodes cs)) (sym one) (q.1, name_inert s cs n p.1)
 
 -- inert bytes are a balanced body
-inert_body : (bs : List ℕ) → All Inert bs → Body bs
+inert_body : (bs : List ℕ) → AllByRecursion Inert bs → Body bs
 inert_body [] h = empty
 inert_body (b ∷ bs) h = balanced b bs h.0.1 (and_left (eqb 36 b) _ (ne_eqb 36 b (λ e. h.0.0 (sym e)))) (inert_body bs h.1)
 
@@ -163,7 +163,7 @@ braced_closes s cs op n h g =
     body_close (body cs op ++ 125 ∷ []) (length (body cs op)) (record { body = body cs op; behind = []; whole = refl; balanced = inert_body (body cs op) inert; place = refl })
 
 -- behind inert bytes there is one place for a `}`
-only : (xs front behind : List ℕ) → All Inert xs → front ++ 125 ∷ behind ≡ xs ++ 125 ∷ [] → length front ≡ length xs
+only : (xs front behind : List ℕ) → AllByRecursion Inert xs → front ++ 125 ∷ behind ≡ xs ++ 125 ∷ [] → length front ≡ length xs
 only [] [] behind h e = refl
 only [] (f ∷ front) behind h e = absurd (omega (arith, ap length e, length-append front (125 ∷ behind)))
 only (x ∷ xs) [] behind h e = let same : x ≡ 125 = cc in absurd (h.0.1 same)
@@ -194,7 +194,7 @@ compose_line bs name (operated o colon w) e h = (
   },
 )
 
-compose_place : (bs name xs : List ℕ) (k : ℕ) → name_at DockerCompose bs ≡ Some (name, xs ++ 125 ∷ []) → All Inert xs → ComposeClose bs k → k ≡ length name + length xs
+compose_place : (bs name xs : List ℕ) (k : ℕ) → name_at DockerCompose bs ≡ Some (name, xs ++ 125 ∷ []) → AllByRecursion Inert xs → ComposeClose bs k → k ≡ length name + length xs
 compose_place bs name xs k e h c =
     let same = sym c.named ∙ e in
     let both : ◌≡◌ {A = List ℕ × List ℕ} (c.name, c.operator ++ (c.text ++ 125 ∷ c.behind)) (name, xs ++ 125 ∷ []) = cc in

@@ -1,7 +1,7 @@
 -- What a text that is one reference comes to.
 use Rattle.std.specs.Prelude.{◌≡◌, ℕ, Bool, true, false, List, [], ◌∷◌, ◌++◌, length, Some, None, codes, Option, ◌≢◌}
 use Rattle.std.proofs.Math.Utf8.{encodes}
-use Rattle.std.specs.List.{AllByRecursion as All}
+use Rattle.std.specs.List.{AllByRecursion}
 use Rattle.names.specs.declared.PropertySyntax.{PropertySyntax}
 use Rattle.names.specs.declared.PropertySyntax.TheVariants.{DockerCompose}
 use Rattle.names.specs.NameLaws.{is_name}
@@ -34,7 +34,7 @@ written name op = codes "${" ++ ((name ++ written_op op) ++ codes "}")
 
 -- A word without `$` (36) and `}` (125), and in DockerCompose without a newline (10).
 abbrev pub Simple : PropertySyntax → List ℕ → Type 0
-Simple s w = All (λ b. (b ≢ 36) × (b ≢ 125) × (s ≡ DockerCompose → b ≢ 10)) w
+Simple s w = AllByRecursion (λ b. (b ≢ 36) × (b ≢ 125) × (s ≡ DockerCompose → b ≢ 10)) w
 
 abbrev pub refusal_of : Op → Shape → (name : Span) → PropertyError
 refusal_of plain v name = Unresolved name
