@@ -7,10 +7,10 @@ pub returns : goal.returns
 returns g c =
     let value = g.S.PropertySource.means c.args.source.now c.args.name.now in
     let area = c.args.area.now in
-    let after = c.lay-value.new.area in
+    let after = c.lay_value.new.area in
     let end : c.min-end.result ≡ min (unwrap_or (option_map length value) 0) (length area) = cc in
     let zeros : c.fill.new.self ≡ replicate (length after - c.min-end.result) 0 = search rules in
     record {
-      length = c.value-len-len.ensures;
-      area = zeros_behind value area after c.fill.new.self c.min-end.result end c.lay-value.ensures zeros;
+      length = c.value_len-len.ensures;
+      area = zeros_behind value area after c.fill.new.self c.min-end.result end c.lay_value.ensures zeros;
     }
