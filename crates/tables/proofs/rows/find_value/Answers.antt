@@ -1,7 +1,7 @@
-use Rattle.std.proofs.Common.{◌≡◌, length, Some, sym, ap, ◌∙◌, subst, arith, length-drop}
+use Rattle.std.proofs.Common.{length, Some, sym, ap, ◌∙◌, subst, arith, length-drop}
 use Rattle.std.proofs.lemmas.List.{take_rest}
 use Rattle.std.specs.Str.{bytes_eq}
-use Rattle.tables.proofs.Looking.{Looking, look_hit, look_none, look_on, same_test, turn}
+use Rattle.tables.proofs.Looking.{Looking, look_hit, look_none, look_on, turn}
 use Rattle.tables.proofs.rows.find_value.Goals as goal
 
 pub name_of-requires : goal.name_of-requires
@@ -13,7 +13,7 @@ value_of-requires g c = (turn g.F.RowFormat.laws c.loop-row.invariant c.in-Some.
 pub returns-then-eq : goal.returns-then-eq
 returns-then-eq g c =
     let t = turn g.F.RowFormat.laws c.loop-row.invariant c.in-Some.ensures in
-    let same = same_test _ c.args.name.now c.eq.result c.eq.ensures ∙ c.if-eq.true in
+    let same = sym c.eq.ensures ∙ c.if-eq.true in
     ap Some c.value_of.ensures ∙ look_hit t (ap (λ n. bytes_eq n c.args.name.now) (sym c.name_of.ensures) ∙ same)
 
 pub slice_bounds-rest-count : goal.slice_bounds-rest-count
@@ -32,7 +32,7 @@ loop-row-smaller g c =
 pub loop-row-preserved : goal.loop-row-preserved
 loop-row-preserved g c =
     let t = turn g.F.RowFormat.laws c.loop-row.invariant c.in-Some.ensures in
-    let other = same_test _ c.args.name.now c.eq.result c.eq.ensures ∙ c.if-eq.false in
+    let other = sym c.eq.ensures ∙ c.if-eq.false in
     subst (λ q. Looking g.F.RowFormat.format c.args.name.now c.args.bytes.now q) (sym (take_rest c.loop-row.rest.now (length c.in-Some.row.now)))
     (look_on t (ap (λ n. bytes_eq n c.args.name.now) (sym c.name_of.ensures) ∙ other))
 

@@ -1,4 +1,3 @@
-use Rattle.tables.proofs.Telling.{tells}
 use Rattle.std.proofs.Common.{arith, length-drop}
 use Rattle.tables.proofs.Checking.{behind_sound, check_bad, check_front, check_more, check_none}
 use Rattle.tables.proofs.rows.first_bad.Goals as goal
