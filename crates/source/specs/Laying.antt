@@ -1,5 +1,5 @@
 -- What laying a value leaves in an area of memory.
-use Rattle.std.specs.Prelude.{ℕ, ◌-◌, List, [], ◌++◌, length, take, drop, replicate, Some, None, Option}
+use Rattle.std.specs.Prelude.{ℕ, ◌-◌, List, ◌++◌, length, take, drop, replicate, Some, None, Option}
 
 -- The area after as much of the value as fits was laid at its front; an unset name writes nothing.
 abbrev pub laid : Option (List ℕ) → List ℕ → List ℕ

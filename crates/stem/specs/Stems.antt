@@ -1,5 +1,5 @@
 -- A layer over a source, whose names stand below behind a stem.
-use Rattle.std.specs.Prelude.{◌≡◌, ℕ, ◌+◌, ◌<◌, ◌≤◌, Bool, true, false, cond, ◌&&◌, List, ◌++◌, length, Some, None, Ok, Err, Option, Result, nat_le, refl}
+use Rattle.std.specs.Prelude.{◌≡◌, ℕ, ◌+◌, ◌<◌, Bool, true, false, cond, ◌&&◌, List, ◌++◌, length, Some, None, Ok, Err, Option, Result, nat_le, refl}
 use Rattle.std.proofs.Common.{arith, length-append}
 use Rattle.source.specs.Lawful.{Lawful}
 use Rattle.source.specs.declared.error.SourceError.{SourceError}

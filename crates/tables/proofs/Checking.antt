@@ -1,7 +1,7 @@
 -- The search for a bad row, row by row.
-use Rattle.std.proofs.Common.{◌≡◌, ℕ, ◌+◌, ◌-◌, ◌≤◌, min, Bool, true, false, cond, not, ◌&&◌, List, [], ◌∷◌, ◌++◌, length, take, drop, is_some, Some, None, Option, sym, refl, ap, ◌∙◌, append_assoc, append-nil, arith, length-append, length-drop, take-add}
+use Rattle.std.proofs.Common.{◌≡◌, ℕ, ◌+◌, ◌-◌, ◌≤◌, true, false, cond, not, List, [], ◌∷◌, ◌++◌, length, take, drop, is_some, Some, None, Option, sym, refl, ap, ◌∙◌, append_assoc, append-nil, arith, length-append, length-drop, take-add}
 use Rattle.std.proofs.lemmas.List.{drop-drop, length-take, take_rest}
-use Rattle.std.proofs.lemmas.Bool.{and_from, and_parts, cond-true, cond-false}
+use Rattle.std.proofs.lemmas.Bool.{and_parts, cond-true, cond-false}
 use Rattle.tables.specs.declared.rows.BadRow.{BadRow}
 use Rattle.tables.specs.Formats.{FormatLaws, Front}
 use Rattle.tables.specs.Rows.{Format, all_sound, bad_behind, bad_row, flat, fresh, lookup, rows}

@@ -3,7 +3,7 @@ use Rattle.std.proofs.Common.{◌≡◌, ℕ, zero, suc, ◌<◌, ◌≤◌, min
 use Rattle.std.proofs.lemmas.List.{drop_at, length-take, take-append-drop}
 use Rattle.std.proofs.lemmas.Bool.{and_from, and_parts}
 use Rattle.tables.specs.BookLaws.{take_taken}
-use Rattle.tables.specs.Formats.{FormatLaws, Front}
+use Rattle.tables.specs.Formats.{FormatLaws}
 use Rattle.tables.specs.Meaning.{Falls, row_at}
 use Rattle.tables.specs.Rows.{Format, all_sound, cut, flat, listed, rows}
 

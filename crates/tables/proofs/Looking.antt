@@ -1,9 +1,6 @@
 -- The search for a name, row by row.
-use Rattle.std.proofs.Common.{◌≡◌, ℕ, Bool, true, false, cond, ◌&&◌, List, [], length, drop, Some, None, Decides, Option, sym, ap, ◌∙◌}
-use Rattle.std.proofs.lemmas.Slice.Eq.{slice_eq-Decides, bytes_eq-Decides}
+use Rattle.std.proofs.Common.{◌≡◌, ℕ, true, false, cond, List, length, drop, Some, None, sym, ap, ◌∙◌}
 use Rattle.std.proofs.lemmas.Bool.{and_parts, cond-true, cond-false}
-use Rattle.std.proofs.lemmas.Bool.Decides.{same_from_decides, Decides-eqb}
-use Rattle.std.specs.Cmp.Lexicographic.{Matches}
 use Rattle.std.specs.Str.{bytes_eq}
 use Rattle.tables.specs.Formats.{FormatLaws, Front}
 use Rattle.tables.specs.Rows.{Format, all_sound, lookup, meaning, rows}
@@ -31,10 +28,6 @@ turn {f} laws {name} {whole} {rest} {r} l h =
       here = sym (ap (λ rs. lookup f rs name) more) ∙ l.found;
       later = p.1;
     }
-
--- what `==` on two byte slices answers
-pub same_test : (xs ys : List ℕ) (r : Bool) → Matches (λ (a b : ℕ) (t : Bool). Decides t (a ≡ b)) xs ys r → bytes_eq xs ys ≡ r
-same_test xs ys r h = same_from_decides (bytes_eq xs ys) r (bytes_eq-Decides xs ys) (slice_eq-Decides Decides-eqb xs ys r h)
 
 module _ {f : Format} {name whole rest r : List ℕ} (t : Turn f name whole rest r) where
   pub look_hit : bytes_eq (f.name r) name ≡ true → Some (f.value r) ≡ meaning f whole name

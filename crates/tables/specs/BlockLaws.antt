@@ -1,10 +1,10 @@
 -- That the format of a block is one of a table.
-use Rattle.std.specs.Prelude.{◌≡◌, ℕ, suc, ◌+◌, ◌-◌, ◌<◌, ◌≤◌, Bool, true, false, cond, ◌&&◌, List, [], ◌∷◌, ◌++◌, length, take, drop, Some, None, Option, ◌==◌, refl}
+use Rattle.std.specs.Prelude.{◌≡◌, ℕ, suc, ◌+◌, ◌-◌, ◌<◌, ◌≤◌, Bool, true, false, cond, ◌&&◌, List, [], ◌∷◌, ◌++◌, length, take, drop, Some, None, ◌==◌, refl}
 use Rattle.std.proofs.Common.{sym, ap, ◌∙◌, arith}
 use Rattle.std.proofs.lemmas.List.{length-take, take_at}
 use Rattle.std.proofs.lemmas.Bool.{and_parts, cond-false, eqb-true, leb-true, ltb-true}
 use Rattle.tables.specs.BookLaws.{some_of, taken_front}
-use Rattle.tables.specs.Blocks.{block_format, entry_name, entry_sound, entry_value, next_entry, place}
+use Rattle.tables.specs.Blocks.{block_format, entry_sound, next_entry, place}
 use Rattle.tables.specs.Books.{all_zero}
 use Rattle.tables.specs.Formats.{FormatLaws, Front}
 

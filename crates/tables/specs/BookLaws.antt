@@ -3,7 +3,7 @@ use Rattle.std.specs.Prelude.{◌≡◌, ℕ, zero, suc, ◌+◌, ◌-◌, ◌<�
 use Rattle.std.proofs.Common.{sym, ap, ◌∙◌, arith, length-append}
 use Rattle.std.proofs.lemmas.List.{length-take, take_at}
 use Rattle.std.proofs.lemmas.Bool.{and_parts, cond-false, eqb-true, eqb-false, leb-true, ne_eqb}
-use Rattle.tables.specs.Books.{book_format, next_record, record_name, record_sound, record_value}
+use Rattle.tables.specs.Books.{book_format, next_record, record_sound}
 use Rattle.tables.specs.Formats.{FormatLaws, Front}
 
 -- the bounds within a sound record

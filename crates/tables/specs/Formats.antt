@@ -1,5 +1,5 @@
 -- What every format of a table keeps, and that a table of sound rows is a lawful source.
-use Rattle.std.specs.Prelude.{◌≡◌, ℕ, ◌<◌, ◌≤◌, Bool, true, false, cond, List, [], ◌∷◌, ◌++◌, length, take, Some, None, Option, refl}
+use Rattle.std.specs.Prelude.{◌≡◌, ℕ, ◌<◌, ◌≤◌, true, false, List, [], ◌∷◌, ◌++◌, length, take, Some, None, Option, refl}
 use Rattle.std.proofs.Common.{sym, ap, ◌∙◌, ⊎_elim, arith}
 use Rattle.std.proofs.lemmas.Slice.Eq.{bytes_eq-Decides}
 use Rattle.std.proofs.lemmas.Bool.{and_parts, cases_Bool, cond-true, cond-false}
@@ -27,7 +27,7 @@ module _ (f : Format) (laws : FormatLaws f) where
   long (r ∷ rs) n ok h =
       let p = and_parts (f.sound r) (all_sound f rs) ok in
       let more = long rs n p.1 h in
-      let bound = laws.name-bound r p.0 in
+      let bound = laws.name_bound r p.0 in
       ⊎_elim
       (λ (t : bytes_eq (f.name r) n ≡ true).
       let same = ap length ((bytes_eq-Decides (f.name r) n).0 t) in
@@ -39,7 +39,7 @@ module _ (f : Format) (laws : FormatLaws f) where
   short [] n v ok e = let z : ◌≡◌ {A = ℕ} 0 1 = cc in absurd (omega arith)
   short (r ∷ rs) n v ok e =
       let p = and_parts (f.sound r) (all_sound f rs) ok in
-      let bound = laws.value-bound r p.0 in
+      let bound = laws.value_bound r p.0 in
       ⊎_elim
       (λ (t : bytes_eq (f.name r) n ≡ true).
       let here : ◌≡◌ {A = Option (List ℕ)} (Some (f.value r)) (Some v) = sym (cond-true (bytes_eq (f.name r) n) (Some (f.value r)) (lookup f rs n) t) ∙ e in

@@ -1,4 +1,4 @@
--- The test for UTF-8 tells what `Utf8` says.
+-- The test for UTF-8 tells what `IsUtf8` says.
 use Rattle.std.proofs.Common.{◌≡◌, ℕ, zero, suc, ◌<◌, ◌≤◌, true, false, List, take, IsUtf8, Decides, ap, ◌∙◌, ⊎_elim, arith}
 use lib.Utf8.{encodes, scalars}
 use Rattle.std.proofs.lemmas.Slice.Eq.{bytes_eq-Decides}

@@ -1,4 +1,4 @@
-use Rattle.std.proofs.Common.{◌≡◌, ℕ, sym, refl, ap, ◌∙◌, arith}
+use Rattle.std.proofs.Common.{◌≡◌, ℕ, sym, refl, arith}
 use Rattle.text.proofs.TextLaws.{formed_decides, formed_unless}
 use Rattle.text.proofs.is_utf8.Goals as goal
 

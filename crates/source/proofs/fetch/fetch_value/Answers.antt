@@ -1,4 +1,4 @@
-use Rattle.std.proofs.Common.{◌≡◌, ◌-◌, min, length, replicate, unwrap_or, ap, ◌∙◌, rules}
+use Rattle.std.proofs.Common.{◌≡◌, ◌-◌, min, length, replicate, unwrap_or, rules}
 use Rattle.std.specs.Option.{option_map}
 use Rattle.source.proofs.FetchLaws.{zeros_behind}
 use Rattle.source.proofs.fetch.fetch_value.Goals as goal

@@ -3,7 +3,7 @@ use Rattle.source.specs.Laying.{laid}
 use Rattle.stem.proofs.StemLaws.{none_below}
 use Rattle.stem.proofs.StemPropertySource.lay_value.Goals as goal
 
-pub returns-in-default : goal.returns-in-default
-returns-in-default g c =
+pub returns-in_default : goal.returns-in_default
+returns-in_default g c =
     let s = c.args.self.now in
-    sym (ap (λ m. laid m c.args.area.now) (none_below s.lawful s.stem.now c.args.name.now (g.S.PropertySource.means s.below) (g.S.PropertySource.laws.long s.below) c.in-default.ensures))
+    sym (ap (λ m. laid m c.args.area.now) (none_below s.lawful s.stem.now c.args.name.now (g.S.PropertySource.means s.below) (g.S.PropertySource.laws.long s.below) c.in_default.ensures))

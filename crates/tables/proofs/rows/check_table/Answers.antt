@@ -17,7 +17,7 @@ pub returns : goal.returns
 returns g c =
     let bytes = c.args.bytes.now in
     record {
-      value = c.first-bad.ensures ∙ sym (cond-false _ _ _ (le-ltb c.args.most (length bytes) c.if-bytes-most.false));
+      value = c.first_bad.ensures ∙ sym (cond-false _ _ _ (le-ltb c.args.most (length bytes) c.if-bytes-most.false));
       rows = falls g.F.RowFormat.laws bytes;
       tells = checked g.F.RowFormat.format c.args.most c.args.top bytes;
     }

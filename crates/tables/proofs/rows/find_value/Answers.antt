@@ -1,26 +1,26 @@
-use Rattle.std.proofs.Common.{◌≡◌, length, Some, sym, ap, ◌∙◌, subst, arith, length-drop}
+use Rattle.std.proofs.Common.{length, Some, sym, ap, ◌∙◌, subst, arith, length-drop}
 use Rattle.std.proofs.lemmas.List.{take_rest}
 use Rattle.std.specs.Str.{bytes_eq}
-use Rattle.tables.proofs.Looking.{Looking, look_hit, look_none, look_on, same_test, turn}
+use Rattle.tables.proofs.Looking.{Looking, look_hit, look_none, look_on, turn}
 use Rattle.tables.proofs.rows.find_value.Goals as goal
 
-pub name-of-requires : goal.name-of-requires
-name-of-requires g c = (turn g.F.RowFormat.laws c.loop-row.invariant c.in-Some.ensures).fit
+pub name_of-requires : goal.name_of-requires
+name_of-requires g c = (turn g.F.RowFormat.laws c.loop-row.invariant c.in-Some.ensures).fit
 
-pub value-of-requires : goal.value-of-requires
-value-of-requires g c = (turn g.F.RowFormat.laws c.loop-row.invariant c.in-Some.ensures).fit
+pub value_of-requires : goal.value_of-requires
+value_of-requires g c = (turn g.F.RowFormat.laws c.loop-row.invariant c.in-Some.ensures).fit
 
 pub returns-then-eq : goal.returns-then-eq
 returns-then-eq g c =
     let t = turn g.F.RowFormat.laws c.loop-row.invariant c.in-Some.ensures in
-    let same = same_test _ c.args.name.now c.eq.result c.eq.ensures ∙ c.if-eq.true in
-    ap Some c.value-of.ensures ∙ look_hit t (ap (λ n. bytes_eq n c.args.name.now) (sym c.name-of.ensures) ∙ same)
+    let same = sym c.eq.ensures ∙ c.if-eq.true in
+    ap Some c.value_of.ensures ∙ look_hit t (ap (λ n. bytes_eq n c.args.name.now) (sym c.name_of.ensures) ∙ same)
 
-pub slice-bounds-rest-count : goal.slice-bounds-rest-count
-slice-bounds-rest-count g c = (turn g.F.RowFormat.laws c.loop-row.invariant c.in-Some.ensures).front.fits
+pub slice_bounds-rest-count : goal.slice_bounds-rest-count
+slice_bounds-rest-count g c = (turn g.F.RowFormat.laws c.loop-row.invariant c.in-Some.ensures).front.fits
 
-pub slice-bounds-rest-start : goal.slice-bounds-rest-start
-slice-bounds-rest-start g c = (turn g.F.RowFormat.laws c.loop-row.invariant c.in-Some.ensures).front.fits
+pub slice_bounds-rest-start : goal.slice_bounds-rest-start
+slice_bounds-rest-start g c = (turn g.F.RowFormat.laws c.loop-row.invariant c.in-Some.ensures).front.fits
 
 pub loop-row-smaller : goal.loop-row-smaller
 loop-row-smaller g c =
@@ -32,9 +32,9 @@ loop-row-smaller g c =
 pub loop-row-preserved : goal.loop-row-preserved
 loop-row-preserved g c =
     let t = turn g.F.RowFormat.laws c.loop-row.invariant c.in-Some.ensures in
-    let other = same_test _ c.args.name.now c.eq.result c.eq.ensures ∙ c.if-eq.false in
+    let other = sym c.eq.ensures ∙ c.if-eq.false in
     subst (λ q. Looking g.F.RowFormat.format c.args.name.now c.args.bytes.now q) (sym (take_rest c.loop-row.rest.now (length c.in-Some.row.now)))
-    (look_on t (ap (λ n. bytes_eq n c.args.name.now) (sym c.name-of.ensures) ∙ other))
+    (look_on t (ap (λ n. bytes_eq n c.args.name.now) (sym c.name_of.ensures) ∙ other))
 
 pub returns : goal.returns
-returns g c = look_none g.F.RowFormat.laws c.loop-row.invariant c.in-default.ensures
+returns g c = look_none g.F.RowFormat.laws c.loop-row.invariant c.in_default.ensures

@@ -1,13 +1,12 @@
-use Rattle.tables.proofs.Telling.{tells}
 use Rattle.std.proofs.Common.{arith, length-drop}
 use Rattle.tables.proofs.Checking.{behind_sound, check_bad, check_front, check_more, check_none}
 use Rattle.tables.proofs.rows.first_bad.Goals as goal
 
-pub is-fresh-requires : goal.is-fresh-requires
-is-fresh-requires g c = behind_sound g.F.RowFormat.laws c.loop-row.invariant
+pub is_fresh-requires : goal.is_fresh-requires
+is_fresh-requires g c = behind_sound g.F.RowFormat.laws c.loop-row.invariant
 
-pub returns-then-not-is-fresh : goal.returns-then-not-is-fresh
-returns-then-not-is-fresh g c = check_bad g.F.RowFormat.laws c.loop-row.invariant c.in-Some.ensures c.if-not-is-fresh.ensures
+pub returns-then-not-is_fresh : goal.returns-then-not-is_fresh
+returns-then-not-is_fresh g c = check_bad g.F.RowFormat.laws c.loop-row.invariant c.in-Some.ensures c.if-not-is_fresh.ensures
 
 pub loop-row-smaller : goal.loop-row-smaller
 loop-row-smaller g c =
@@ -16,7 +15,7 @@ loop-row-smaller g c =
     omega (arith, t.some, t.fits)
 
 pub loop-row-preserved : goal.loop-row-preserved
-loop-row-preserved g c = check_more g.F.RowFormat.laws c.loop-row.invariant c.in-Some.ensures c.if-not-is-fresh.ensures
+loop-row-preserved g c = check_more g.F.RowFormat.laws c.loop-row.invariant c.in-Some.ensures c.if-not-is_fresh.ensures
 
 pub returns : goal.returns
-returns g c = check_none g.F.RowFormat.laws c.loop-row.invariant c.in-default.ensures
+returns g c = check_none g.F.RowFormat.laws c.loop-row.invariant c.in_default.ensures

@@ -1,4 +1,4 @@
-use Rattle.std.proofs.Common.{◌≡◌, [], sym, ap, ◌∙◌}
+use Rattle.std.proofs.Common.{◌≡◌, [], ap, ◌∙◌}
 use Rattle.tables.specs.Rows.{all_sound, rows, table_bad, usable}
 use Rattle.tables.proofs.Telling.{made, usable_sound}
 use Rattle.tables.proofs.rows.usable_bytes.Goals as goal
