@@ -1,16 +1,8 @@
 -- The places of the matches, one step on. Assumes nothing.
-use Rattle.std.proofs.Common.{◌≡◌, ℕ, zero, suc, ◌+◌, ◌-◌, ◌<◌, ◌≤◌, Bool, true, false, ◌&&◌, List, [], ◌∷◌, length, take, drop, Decides, sym, refl, ap, ◌∙◌, arith}
-use Rattle.std.proofs.lemmas.Slice.Eq.{bytes_eq-Decides, slice_eq-Decides}
-use Rattle.std.proofs.lemmas.List.{at_drop_more, at_drop_all, drop-drop, take_rest}
-use Rattle.std.proofs.lemmas.Bool.{cond-true, cond-false, lt-ltb}
-use Rattle.std.proofs.lemmas.Bool.Decides.{same_from_decides, Decides-eqb}
-use Rattle.std.specs.Cmp.Lexicographic.{Matches}
-use Rattle.std.specs.Str.{bytes_eq}
+use Rattle.std.proofs.Common.{◌≡◌, ℕ, zero, suc, ◌+◌, ◌-◌, ◌<◌, ◌≤◌, true, false, List, [], ◌∷◌, length, drop, sym, refl, ap, ◌∙◌, arith}
+use Rattle.std.proofs.lemmas.List.{at_drop_more, at_drop_all, drop-drop}
+use Rattle.std.proofs.lemmas.Bool.{cond-true, cond-false}
 use Rattle.matches.specs.Places.{spots, starts}
-
--- what `==` and `starts_with` answer
-same_test : (xs ys : List ℕ) (r : Bool) → Matches (λ (a b : ℕ) (t : Bool). Decides t (a ≡ b)) xs ys r → bytes_eq xs ys ≡ r
-same_test xs ys r h = same_from_decides (bytes_eq xs ys) r (bytes_eq-Decides xs ys) (slice_eq-Decides Decides-eqb xs ys r h)
 
 spots_skip : (n : List ℕ) (k i : ℕ) (bs : List ℕ) → spots n k i bs ≡ spots n 0 (i + k) (drop k bs)
 spots_skip n zero i bs = let e : i ≡ i + 0 = omega arith in ap (λ j. spots n 0 j bs) e
@@ -38,9 +30,3 @@ module _ (n text : List ℕ) (at : ℕ) where
 
   pub spots_end : length text ≤ at → spots n 0 at (drop at text) ≡ []
   spots_end h = at_drop_all (spots n 0 at) text at h
-
-  -- what `text[at..].starts_with(needle)` answers
-  pub tested : (r : Bool) → 0 < length n → Matches (λ (a b : ℕ) (t : Bool). Decides t (a ≡ b)) n (take (length n) (take (length text - at) (drop at text))) r → r ≡ starts n (drop at text)
-  tested r some h =
-      sym (ap (λ q. bytes_eq n (take (length n) q)) (sym (take_rest text at)) ∙ same_test n (take (length n) (take (length text - at) (drop at text))) r h)
-      ∙ sym (ap (λ b. b && bytes_eq n (take (length n) (drop at text))) (lt-ltb 0 (length n) some))

@@ -1,20 +1,13 @@
 -- What the loops over a list of pairs find, one step on. Assumes nothing.
-use Rattle.std.proofs.Common.{◌≡◌, ℕ, ◌+◌, ◌<◌, ◌≤◌, max, Bool, true, false, ◌||◌, leb, List, [], ◌∷◌, length, get_or, drop, Some, None, Decides, sym, refl, ap, ◌∙◌, arith}
-use Rattle.std.proofs.lemmas.Slice.Eq.{bytes_eq-Decides, slice_eq-Decides}
+use Rattle.std.proofs.Common.{◌≡◌, ℕ, ◌+◌, ◌<◌, ◌≤◌, max, true, false, ◌||◌, leb, List, [], ◌∷◌, length, get_or, drop, Some, None, sym, refl, ap, ◌∙◌, arith}
 use Rattle.std.proofs.lemmas.List.{at_drop_more, at_drop_all, get_or-map, get_or_past, length-drop, length-map, length-take}
 use Rattle.std.proofs.lemmas.Bool.{cond-true, cond-false, le-leb, lt-leb}
-use Rattle.std.proofs.lemmas.Bool.Decides.{same_from_decides, Decides-eqb}
-use Rattle.std.specs.Cmp.Lexicographic.{Matches}
 use Rattle.std.specs.Str.{bytes_eq}
 use Rattle.pairs.specs.Lookups.{lookup}
 use Rattle.pairs.specs.Pairs.{Pair, has, same_pair}
 use Rattle.pairs.specs.Records.{pair_of, pairs_in}
 use Rattle.pairs.specs.Sizes.{longest, size, size_within}
 use Rattle.pairs.specs.declared.record.PairRecord.{PairRecord}
-
--- what `==` answers
-pub same_test : (xs ys : List ℕ) (r : Bool) → Matches (λ (a b : ℕ) (t : Bool). Decides t (a ≡ b)) xs ys r → r ≡ bytes_eq xs ys
-same_test xs ys r h = sym (same_from_decides (bytes_eq xs ys) r (bytes_eq-Decides xs ys) (slice_eq-Decides Decides-eqb xs ys r h))
 
 -- the pair at i
 pub pair_at : (bytes : List ℕ) (rs : List PairRecord) (i : ℕ) (r : PairRecord) (p : Pair) → i < length rs → pair_of bytes (get_or rs i r) ≡ get_or (pairs_in bytes rs) i p

@@ -1,4 +1,4 @@
-ghost use Rattle.std.specs.Prelude.{◌≡◌, [], length, get_or, take, drop, slice_index_or};
+ghost use Rattle.std.specs.Prelude.{◌≡◌, [], length, take, drop, slice_index_or};
 ghost use Rattle.std.specs.Option.{option_map};
 ghost use Rattle.std.specs.Str.{bytes_eq};
 ghost use Rattle.pairs.specs.Lists.{listed};
@@ -46,7 +46,7 @@ impl<'r, 'b> PairList<'r, 'b> {
 
     // The text of the pair at i; empty where there is none.
     pub fn text(&self, i: usize) -> &[u8]
-        ensures { result.now ≡ (get_or (listed self.now) i ([], [])).0 }
+        ensures { result.now ≡ (slice_index_or (listed self.now) i ([], [])).0 }
     {
         let records = self.records;
         if i < records.len() {
@@ -58,7 +58,7 @@ impl<'r, 'b> PairList<'r, 'b> {
 
     // The result of the pair at i; empty where there is none.
     pub fn result(&self, i: usize) -> &[u8]
-        ensures { result.now ≡ (get_or (listed self.now) i ([], [])).1 }
+        ensures { result.now ≡ (slice_index_or (listed self.now) i ([], [])).1 }
     {
         let records = self.records;
         if i < records.len() {

@@ -22,18 +22,18 @@ returns-in-Given c =
     let n : ℕ = length c.args.area.now in
     let fallback : List ℕ = c.args.fallback.now in
     let text : List ℕ = c.args.text.now in
-    let area : List ℕ = c.take-pairs.new.area in
-    let as-given : ended n fallback (state_of text area c.take-pairs.result) ≡ fitting n fallback =
+    let area : List ℕ = c.take_pairs.new.area in
+    let as-given : ended n fallback (state_of text area c.take_pairs.result) ≡ fitting n fallback =
     ⊎_elim
-    (λ (e : c.take-pairs.result ≡ Given). ap (λ r. ended n fallback (state_of text area r)) e)
-    (λ (e : c.take-pairs.result ≡ Fallback). ap (λ r. ended n fallback (state_of text area r)) e)
+    (λ (e : c.take_pairs.result ≡ Given). ap (λ r. ended n fallback (state_of text area r)) e)
+    (λ (e : c.take_pairs.result ≡ Fallback). ap (λ r. ended n fallback (state_of text area r)) e)
     c.in-Given.is in
     let out : redacted n fallback (scope c.args.pairs.now) text ≡ fitting n fallback =
     some_redacted n fallback text (listed c.args.pairs.now) (λ e. c.if-len-eq0.false (c.len.ensures ∙ e))
-    ∙ ap (ended n fallback) (sym c.take-pairs.ensures.says) ∙ as-given in
+    ∙ ap (ended n fallback) (sym c.take_pairs.ensures.says) ∙ as-given in
     record {
-      says = c.show.ensures.says ∙ ap (λ m. answer_of (fitting m fallback)) c.take-pairs.auto.area ∙ sym (ap answer_of out);
-      area = c.show.ensures.area ∙ ap (λ m. area_of m (fitting m fallback)) c.take-pairs.auto.area ∙ sym (ap (area_of n) out);
+      says = c.show.ensures.says ∙ ap (λ m. answer_of (fitting m fallback)) c.take_pairs.auto.area ∙ sym (ap answer_of out);
+      area = c.show.ensures.area ∙ ap (λ m. area_of m (fitting m fallback)) c.take_pairs.auto.area ∙ sym (ap (area_of n) out);
     }
 
 pub returns-in-Made : goal.returns-in-Made
@@ -41,9 +41,9 @@ returns-in-Made c =
     let n : ℕ = length c.args.area.now in
     let fallback : List ℕ = c.args.fallback.now in
     let text : List ℕ = c.args.text.now in
-    let area : List ℕ = c.take-pairs.new.area in
+    let area : List ℕ = c.take_pairs.new.area in
     let len : ℕ = c.in-Made.len in
-    let kept : length area ≡ n = c.take-pairs.auto.area in
+    let kept : length area ≡ n = c.take_pairs.auto.area in
     let low : len ≤ n = c.in-Made.ensures.within in
     let inside : len ≤ length area = omega arith in
     let zeros : c.fill-in-Made.new.self ≡ replicate (n - len) 0 = search (rules, places) in

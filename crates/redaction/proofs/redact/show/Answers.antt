@@ -13,6 +13,6 @@ returns c =
     record {
       says = sym (ap answer_of (fits n text low));
       area =
-          ap (λ q. q ++ drop (length text - 0) c.fill.new.self) c.copy-from-slice.ensures.after
+          ap (λ q. q ++ drop (length text - 0) c.fill.new.self) c.copy_from_slice.ensures.after
           ∙ ap (λ k. text ++ drop k c.fill.new.self) z ∙ fits_area n text low c.fill.new.self zeros;
     }

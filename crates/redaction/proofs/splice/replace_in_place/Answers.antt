@@ -22,7 +22,7 @@ returns c =
     let long = length_front at old new area len c.requires.within c.requires.part in
     let k : at + length new - at ≡ length new = omega arith in
     let made =
-    ap (λ q. put_mid at (at + length new - at) q c.copy-from-slice.new.self) c.copy-within.ensures.after
-    ∙ ap (λ q. put_mid at (at + length new - at) (paste area (at + length new) (drop (at + old) area) (len - (at + old))) q) c.copy-from-slice.ensures.after
+    ap (λ q. put_mid at (at + length new - at) q c.copy_from_slice.new.self) c.copy_within.ensures.after
+    ∙ ap (λ q. put_mid at (at + length new - at) (paste area (at + length new) (drop (at + old) area) (len - (at + old))) q) c.copy_from_slice.ensures.after
     ∙ moved area new at old len c.requires.part c.requires.within low (at + length new - at) k in
     record { says = λ given. at_front (length area) m (spliced at old new (take len area)) long low _ _ made; within = low }

@@ -25,12 +25,12 @@ returns c =
     let inside : at ≤ length text = omega arith in
     let long : length (take at text) ≡ at = length-take-le at text inside in
     let both : length (take at text) + length new ≡ at + length new = ap (λ n. n + length new) long in
-    let f : c.copy-from-slice.new.self ≡ take at text = c.copy-from-slice.ensures.after ∙ ap (λ n. take n text) z in
-    let g : c.copy-from-slice-2.new.self ≡ new = c.copy-from-slice-2.ensures.after in
-    let h : c.copy-from-slice-3.new.self ≡ drop (at + old) text = c.copy-from-slice-3.ensures.after ∙ take_rest text (at + old) in
+    let f : c.copy_from_slice.new.self ≡ take at text = c.copy_from_slice.ensures.after ∙ ap (λ n. take n text) z in
+    let g : c.copy_from_slice-2.new.self ≡ new = c.copy_from_slice-2.ensures.after in
+    let h : c.copy_from_slice-3.new.self ≡ drop (at + old) text = c.copy_from_slice-3.ensures.after ∙ take_rest text (at + old) in
     let made =
-    ap (λ q. put_mid (at + length new) (m - (at + length new)) (put_mid at (at + length new - at) (put_mid 0 (at - 0) area q) c.copy-from-slice-2.new.self) c.copy-from-slice-3.new.self) f
-    ∙ ap (λ q. put_mid (at + length new) (m - (at + length new)) (put_mid at (at + length new - at) (put_mid 0 (at - 0) area (take at text)) q) c.copy-from-slice-3.new.self) g
+    ap (λ q. put_mid (at + length new) (m - (at + length new)) (put_mid at (at + length new - at) (put_mid 0 (at - 0) area q) c.copy_from_slice-2.new.self) c.copy_from_slice-3.new.self) f
+    ∙ ap (λ q. put_mid (at + length new) (m - (at + length new)) (put_mid at (at + length new - at) (put_mid 0 (at - 0) area (take at text)) q) c.copy_from_slice-3.new.self) g
     ∙ ap (λ q. put_mid (at + length new) (m - (at + length new)) (put_mid at (at + length new - at) (put_mid 0 (at - 0) area (take at text)) new) q) h
     ∙ three area (take at text) new (drop (at + old) text) at (at + length new) m long both (at - 0) z (at + length new - at) k (m - (at + length new)) j in
     record { says = λ given. at_front (length area) m (spliced at old new text) (length_spliced at old new text c.requires.part) low _ _ made; within = low }

@@ -18,7 +18,7 @@ loop-size-init c =
 
 pub loop-size-smaller : goal.loop-size-smaller
 loop-size-smaller c =
-    let e = c.size-within-size.ensures in
+    let e = c.size_within-size.ensures in
     let h = size_low (c.loop-size.size - 1) (listed c.args.pairs.now) in
     omega arith
 
@@ -30,13 +30,13 @@ loop-size-preserved c =
     let k : ℕ = c.loop-size.size in
     let text : List ℕ = c.args.text.now in
     let was : State = state_of text c.loop-size.area c.loop-size.course in
-    let now : state_of text c.take-size-course.new.area c.take-size-course.result ≡ steps n was (of_size k qs) =
-    c.take-size-course.ensures.says ∙ ap (λ m. steps m was (of_size k qs)) c.loop-size.auto.area in (
-      ap (λ s. steps n s (down_from c.size-within-size.result qs)) now
-          ∙ ap (λ j. steps n (steps n was (of_size k qs)) (down_from j qs)) c.size-within-size.ensures
+    let now : state_of text c.take_size-course.new.area c.take_size-course.result ≡ steps n was (of_size k qs) =
+    c.take_size-course.ensures.says ∙ ap (λ m. steps m was (of_size k qs)) c.loop-size.auto.area in (
+      ap (λ s. steps n s (down_from c.size_within-size.result qs)) now
+          ∙ ap (λ j. steps n (steps n was (of_size k qs)) (down_from j qs)) c.size_within-size.ensures
           ∙ ap (steps n (steps n was (of_size k qs))) (sym (down_next (k - 1) ps))
           ∙ sym (steps_append n was (of_size k qs) (down_from (k - 1) qs))
           ∙ ap (steps n was) (sym (down_step k qs c.loop-size-test.true))
           ∙ c.loop-size.invariant.0,
-      subst (λ m. Stands m c.take-size-course.result) c.loop-size.auto.area c.take-size-course.ensures.within,
+      subst (λ m. Stands m c.take_size-course.result) c.loop-size.auto.area c.take_size-course.ensures.within,
     )

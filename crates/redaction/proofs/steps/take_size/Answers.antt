@@ -7,7 +7,7 @@ use Rattle.redaction.specs.Courses.{Stands, state_of}
 use Rattle.redaction.specs.Redactions.{State, step, steps}
 use Rattle.redaction.proofs.StepsLaws.{left, left_none, left_other, left_repeat, left_taken}
 use Rattle.redaction.proofs.steps.take_size.Goals as goal
-use Rattle.redaction.proofs.steps.take_size.Goals.{then-old-size+then-not-is-repeat, else-old-size, else-old-size-via-then-old-size+else-not-is-repeat, else-old-size-via-else-old-size}
+use Rattle.redaction.proofs.steps.take_size.Goals.{then-old-size+then-not-is_repeat, else-old-size, else-old-size-via-then-old-size+else-not-is_repeat, else-old-size-via-else-old-size}
 
 pub loop-i-preserved : goal.loop-i-preserved
 loop-i-preserved c =
@@ -21,23 +21,23 @@ loop-i-preserved c =
     let was : State = state_of text c.loop-i.area c.loop-i.course in
     let long : length c.result-old.result.now ≡ size (get_or ps i d) = ap length c.result-old.ensures in
     elim c.if-old-size.branch [
-      | then-old-size+then-not-is-repeat w ↦
+      | then-old-size+then-not-is_repeat w ↦
           let same : size (get_or ps i d) ≡ k = sym long ∙ w.if-old-size.true in
           let now : state_of text c.if-old-size.area c.if-old-size.course ≡ step n was (get_or ps i d) =
-          ap (λ a. state_of text a c.if-old-size.course) w.area-is ∙ ap (state_of text w.take-pair-course.new.area) w.course-is
-          ∙ w.take-pair-course.ensures.says
+          ap (λ a. state_of text a c.if-old-size.course) w.area-is ∙ ap (state_of text w.take_pair-course.new.area) w.course-is
+          ∙ w.take_pair-course.ensures.says
           ∙ ap (λ m. step m was (w.text.result.now, c.result-old.result.now)) c.loop-i.auto.area
           ∙ ap (λ q. step n was (q, c.result-old.result.now)) w.text.ensures
           ∙ ap (λ q. step n was ((get_or ps i d).0, q)) c.result-old.ensures in (
-            ap (λ s. left n k ps i d s (i + 1)) now ∙ sym (left_taken n k ps i d was here w.if-not-is-repeat.ensures same) ∙ c.loop-i.invariant.0,
-            subst (Stands n) (sym w.course-is) (subst (λ m. Stands m w.take-pair-course.result) c.loop-i.auto.area w.take-pair-course.ensures.within),
+            ap (λ s. left n k ps i d s (i + 1)) now ∙ sym (left_taken n k ps i d was here w.if-not-is_repeat.ensures same) ∙ c.loop-i.invariant.0,
+            subst (Stands n) (sym w.course-is) (subst (λ m. Stands m w.take_pair-course.result) c.loop-i.auto.area w.take_pair-course.ensures.within),
           )
       | else-old-size w ↦
           let now : state_of text c.if-old-size.area c.if-old-size.course ≡ was =
           ap (λ a. state_of text a c.if-old-size.course) w.area-is ∙ ap (state_of text c.loop-i.area) w.course-is in
           let on : left n k ps i d was i ≡ left n k ps i d was (i + 1) =
           elim w.else-old-size.branch [
-            | else-old-size-via-then-old-size+else-not-is-repeat v ↦ left_repeat n k ps i d was here v.if-not-is-repeat.ensures
+            | else-old-size-via-then-old-size+else-not-is_repeat v ↦ left_repeat n k ps i d was here v.if-not-is_repeat.ensures
             | else-old-size-via-else-old-size v ↦ left_other n k ps i d was here (λ e. v.if-old-size.false (long ∙ e))
           ] in
           (ap (λ s. left n k ps i d s (i + 1)) now ∙ sym on ∙ c.loop-i.invariant.0, subst (Stands n) (sym w.course-is) c.loop-i.invariant.1)

@@ -3,4 +3,4 @@ use Rattle.pairs.proofs.ListsLaws.{all_longest}
 use Rattle.pairs.proofs.list.PairList.longest.Goals as goal
 
 pub returns : goal.returns
-returns c = c.size-within.ensures ∙ all_longest c.args.self.now.bytes.now c.args.self.now.records.now
+returns c = c.size_within.ensures ∙ all_longest c.args.self.now.bytes.now c.args.self.now.records.now

@@ -5,4 +5,4 @@ use Rattle.pairs.proofs.record.PairRecord.text_in.Goals as goal
 pub returns : goal.returns
 returns c =
     c.part.ensures
-    ∙ bounded c.args.bytes.now _ _ c.args.self.at c.saturating-add.result (2 ^ 64 - 1) (2 ^ 64 - 1) (omega arith) (omega arith) (omega arith) c.saturating-add.ensures
+    ∙ bounded c.args.bytes.now _ _ c.args.self.at c.saturating_add.result (2 ^ 64 - 1) (2 ^ 64 - 1) (omega arith) (omega arith) (omega arith) c.saturating_add.ensures
