@@ -1,5 +1,5 @@
 -- Selected text: its events by how it is completed, and the values of properties.
-use Rattle.std.proofs.Common.{◌≡◌, ℕ, suc, ◌-◌, true, false, ◌||◌, ltb, List, [], ◌∷◌, length, Some, None, Ok, Err, Option, Result, sym, refl, ap, arith, Bor}
+use Rattle.std.proofs.Common.{◌≡◌, ℕ, suc, ◌-◌, true, false, ◌||◌, ltb, List, [], ◌∷◌, length, Some, None, Ok, Err, Option, Result, sym, refl, ap, ◌∙◌, arith, Bor, MutBor}
 use Rattle.std.specs.Option.{option_map}
 use Rattle.std.proofs.lemmas.Bool.{lt-ltb}
 use Rattle.names.specs.declared.PropertySyntax.{PropertySyntax}
@@ -9,7 +9,7 @@ use Rattle.items.specs.declared.action.FrameCompletion.TheVariants.{Root, Append
 use Rattle.items.specs.Pieces.{is_filled}
 use Rattle.items.specs.Items.{expands}
 use Rattle.items.specs.Looks.{chosen}
-use Rattle.walk.specs.Events.{Event, acts, charge, explained, message, selected}
+use Rattle.expansion.specs.Events.{Event, acts, charge, explained, message, selected}
 use Rattle.walk.specs.Frames.{Opens, OpensBy, Proper, open_events, put_events}
 use Rattle.references.specs.declared.error.PropertyError.{PropertyError}
 use Rattle.items.specs.declared.action.Action.TheVariants.{Interpolate}
