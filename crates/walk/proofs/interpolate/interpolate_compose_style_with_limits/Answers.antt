@@ -12,8 +12,8 @@ pub returns-then-text-gt-TEXT_MAX : goal.returns-then-text-gt-TEXT_MAX
 returns-then-text-gt-TEXT_MAX g c =
     record { answer = search rules; area = search rules; total = search rules; limit = search rules; laws = walk_laws; trials = trials }
 
-pub returns-then-frames_needed : goal.returns-then-frames_needed
-returns-then-frames_needed g c =
+pub returns-then-frames-needed : goal.returns-then-frames-needed
+returns-then-frames-needed g c =
     record { answer = search rules; area = search rules; total = search rules; limit = search rules; laws = walk_laws; trials = trials }
 
 pub returns-in_default : goal.returns-in_default
@@ -24,7 +24,7 @@ returns-in_default g c =
     let n = length c.args.area.now in
     let slots = length c.args.frames.now in
     let whole = walk_of m c.args.syntax c.args.max_nested_expansions w text in
-    let enough : frames_needed (length text) ≤ slots = subst (λ k. k ≤ slots) c.frames_needed-needed.ensures c.if-frames_needed.false in
+    let enough : frames_needed (length text) ≤ slots = subst (λ k. k ≤ slots) c.frames_needed-needed.ensures c.if-frames-needed.false in
     let told = passed_told (length text) slots c.if-text-gt-TEXT_MAX.false enough (values m) n whole in
     let kept = kept_plain m c.args.syntax c.args.max_nested_expansions w text n (sym c.in_default.is ∙ c.find_dollar.ensures.place) in
     record {
@@ -44,7 +44,7 @@ returns g c =
     let n = length c.args.area.now in
     let slots = length c.args.frames.now in
     let whole = walk_of m c.args.syntax c.args.max_nested_expansions w text in
-    let enough : frames_needed (length text) ≤ slots = subst (λ k. k ≤ slots) c.frames_needed-needed.ensures c.if-frames_needed.false in
+    let enough : frames_needed (length text) ≤ slots = subst (λ k. k ≤ slots) c.frames_needed-needed.ensures c.if-frames-needed.false in
     let told = passed_told (length text) slots c.if-text-gt-TEXT_MAX.false enough (values m) n whole in
     let e = c.expand_text.ensures in
     record {
