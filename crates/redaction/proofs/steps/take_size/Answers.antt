@@ -24,7 +24,7 @@ loop-i-preserved c =
       | then-old-size+then-not-is_repeat w ↦
           let same : size (get_or ps i d) ≡ k = sym long ∙ w.if-old-size.true in
           let now : state_of text c.if-old-size.area c.if-old-size.course ≡ step n was (get_or ps i d) =
-          ap (λ a. state_of text a c.if-old-size.course) w.area_is ∙ ap (state_of text w.take_pair-course.new.area) w.course-is
+          ap (λ a. state_of text a c.if-old-size.course) w.area-is ∙ ap (state_of text w.take_pair-course.new.area) w.course-is
           ∙ w.take_pair-course.ensures.says
           ∙ ap (λ m. step m was (w.text.result.now, c.result-old.result.now)) c.loop-i.auto.area
           ∙ ap (λ q. step n was (q, c.result-old.result.now)) w.text.ensures
@@ -34,7 +34,7 @@ loop-i-preserved c =
           )
       | else-old-size w ↦
           let now : state_of text c.if-old-size.area c.if-old-size.course ≡ was =
-          ap (λ a. state_of text a c.if-old-size.course) w.area_is ∙ ap (state_of text c.loop-i.area) w.course-is in
+          ap (λ a. state_of text a c.if-old-size.course) w.area-is ∙ ap (state_of text c.loop-i.area) w.course-is in
           let on : left n k ps i d was i ≡ left n k ps i d was (i + 1) =
           elim w.else-old-size.branch [
             | else-old-size-via-then-old-size+else-not-is_repeat v ↦ left_repeat n k ps i d was here v.if-not-is_repeat.ensures
