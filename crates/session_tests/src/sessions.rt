@@ -33,11 +33,11 @@ fn password_is_not_shown(rt: HostRuntime) -> Result<(), Fail> {
         &mut bytes,
         &mut area,
     )?;
-    assert!(rt; answer.text(text, &area) == b"pass: s0l${LIMIT}ar");
+    assert!(rt; answer.text(text, &area) == b"pass: s0l${LIMIT}ar".as_slice());
 
     let said = b"refused: pass: s0l${LIMIT}ar";
     let shown = redact_custom_message(said, scope.marks, &records, &bytes, &mut area)?;
-    assert!(rt; shown.text(said, &area) == b"refused: pass: ${TARIFF_PASS}");
+    assert!(rt; shown.text(said, &area) == b"refused: pass: ${TARIFF_PASS}".as_slice());
     Ok(())
 }
 
@@ -77,7 +77,7 @@ fn scopes_in_scopes(rt: HostRuntime) -> Result<(), Fail> {
             &mut area,
         )?;
         assert_eq!(rt; shown, Answer::Replaced(13));
-        assert!(rt; shown.text(b"", &area) == b"cell ${C} bad");
+        assert!(rt; shown.text(b"", &area) == b"cell ${C} bad".as_slice());
         let named = redact_dynamic_identifier(
             b"12",
             b"?",
@@ -86,7 +86,7 @@ fn scopes_in_scopes(rt: HostRuntime) -> Result<(), Fail> {
             &bytes,
             &mut area,
         )?;
-        assert!(rt; named.text(b"", &area) == b"${C}");
+        assert!(rt; named.text(b"", &area) == b"${C}".as_slice());
     }
     assert_eq!(rt; marks.records, 0);
     let shown = redact_custom_message(b"cell 12 bad", &marks, &records, &bytes, &mut area)?;
