@@ -6,8 +6,8 @@ use Rattle.std.proofs.lemmas.Bool.{cases_lt, cond-true, cond-false, lt-ltb, le-l
 use Rattle.std.proofs.lemmas.Str.{length-encode, encodes-chars, scalars-chars}
 use Rattle.std.proofs.lemmas.Bool.Decides.{nat_tests}
 use Rattle.std.specs.Char.{len_utf8}
-use Rattle.std.specs.Str.{chars}
-use Rattle.names.specs.Glyphs.{bytes_after, glyph, glyphs, letter_of, spelt, wide}
+use Rattle.std.specs.Str.{chars, continuation_len}
+use Rattle.names.specs.Glyphs.{glyph, glyphs, letter_of, spelt, wide}
 use Rattle.names.proofs.GlyphLaws.{first_of}
 
 -- how the four widths are written
@@ -33,10 +33,10 @@ four c l =
     cond-false _ _ _ (le-ltb c 128 a) ∙ cond-false _ _ _ (le-ltb c 2048 b) ∙ cond-false _ _ _ (le-ltb c 65536 l)
 
 -- a character by its first byte and those behind it
-lead : (b : ℕ) (bs : List ℕ) (c k : ℕ) → spelt (b ∷ bs) ≡ c → 1 + bytes_after b ≡ k → k ≤ length (b ∷ bs) → glyph (b ∷ bs) ≡ Some (letter_of c, k)
+lead : (b : ℕ) (bs : List ℕ) (c k : ℕ) → spelt (b ∷ bs) ≡ c → 1 + continuation_len b ≡ k → k ≤ length (b ∷ bs) → glyph (b ∷ bs) ≡ Some (letter_of c, k)
 lead b bs c k s e h =
-    let m : min (1 + bytes_after b) (length (b ∷ bs)) ≡ k = omega (arith, e) in
-    ap (λ n. Some (letter_of n, min (1 + bytes_after b) (length (b ∷ bs)))) s ∙ ap (λ n. Some (letter_of c, n)) m
+    let m : min (1 + continuation_len b) (length (b ∷ bs)) ≡ k = omega (arith, e) in
+    ap (λ n. Some (letter_of n, min (1 + continuation_len b) (length (b ∷ bs)))) s ∙ ap (λ n. Some (letter_of c, n)) m
 
 -- number and width read back
 read_back : (c : ℕ) (rest : List ℕ) → c < 1114112 → glyph (encode c ++ rest) ≡ Some (letter_of c, len_utf8 c)

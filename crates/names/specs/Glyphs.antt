@@ -2,6 +2,7 @@
 use Rattle.std.specs.Prelude.{ℕ, zero, suc, ◌+◌, ◌-◌, ◌*◌, min, cond, List, [], ◌∷◌, length, drop, Some, None, Option, nat_lt, slice_index}
 use Rattle.std.proofs.Math.Utf8.{scalar}
 use Rattle.std.specs.Char.{len_utf8}
+use Rattle.std.specs.Str.{continuation_len}
 
 -- the number that the first character is written as, by its first byte; bytes that are missing count as zero
 abbrev pub spelt : List ℕ → ℕ
@@ -15,13 +16,9 @@ spelt bs =
 abbrev pub letter_of : ℕ → ℕ
 letter_of n = cond (scalar n) n 65533
 
--- how many bytes belong to a character after its first byte, by that byte
-abbrev pub bytes_after : ℕ → ℕ
-bytes_after b = cond (nat_lt b 128) 0 (cond (nat_lt b 224) 1 (cond (nat_lt b 240) 2 3))
-
 -- the first character with its width, which is no more than what is left
 abbrev pub first : ℕ → List ℕ → ℕ × ℕ
-first b bs = (letter_of (spelt (b ∷ bs)), min (1 + bytes_after b) (length (b ∷ bs)))
+first b bs = (letter_of (spelt (b ∷ bs)), min (1 + continuation_len b) (length (b ∷ bs)))
 
 -- the first character, where any byte is left
 abbrev pub glyph : List ℕ → Option (ℕ × ℕ)

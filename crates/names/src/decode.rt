@@ -1,7 +1,8 @@
 // The first character of bytes, which need not be well-formed UTF-8.
 
 ghost use Rattle.std.specs.Prelude.{◌≡◌, ◌+◌, ◌-◌, ◌<◌, ◌≤◌, slice_index};
-ghost use Rattle.names.specs.Glyphs.{bytes_after, glyph, letter_of, spelt};
+ghost use Rattle.std.specs.Str.{continuation_len};
+ghost use Rattle.names.specs.Glyphs.{glyph, letter_of, spelt};
 
 // The low bits of a byte inside a character; nothing past the end.
 fn bits(text: &[u8], at: usize) -> u32
@@ -33,7 +34,7 @@ fn code(text: &[u8], lead: u8) -> u32
 // How many bytes such a character has, by its first.
 fn width(lead: u8) -> usize
     requires { 128 ≤ lead }
-    ensures { result ≡ 1 + bytes_after lead }
+    ensures { result ≡ 1 + continuation_len lead }
 {
     if lead < 224 {
         2
