@@ -1,5 +1,5 @@
 -- Reading the pairs that were recorded.
-use Rattle.std.proofs.Common.{◌≡◌, ℕ, zero, suc, List, [], ◌∷◌, drop, refl, ap, ◌∙◌}
+use Rattle.std.proofs.Common.{◌≡◌, ℕ, zero, suc, List, [], ◌∷◌, drop, refl}
 use Rattle.pairs.specs.Records.{pairs_in}
 use Rattle.pairs.specs.declared.record.PairRecord.{PairRecord}
 

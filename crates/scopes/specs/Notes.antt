@@ -1,5 +1,5 @@
 -- What noting a pair does to the pair memory.
-use Rattle.std.specs.Prelude.{ℕ, ◌+◌, Bool, false, cond, not, ◌&&◌, ◌||◌, List, ◌++◌, length, take, drop, Some, None, Ok, Err, Option, Result, nat_le, slice_set}
+use Rattle.std.specs.Prelude.{ℕ, ◌+◌, Bool, false, cond, not, ◌&&◌, List, ◌++◌, length, take, drop, Some, None, Ok, Err, Option, Result, nat_le, slice_set}
 use Rattle.pairs.specs.Pairs.{Pair, has}
 use Rattle.pairs.specs.Records.{within}
 use Rattle.pairs.specs.declared.record.PairRecord.{PairRecord}

@@ -1,5 +1,5 @@
 -- A call after its checks.
-use Rattle.std.proofs.Common.{◌≡◌, ℕ, List, Ok, Err, Result, sym, refl, ap, ◌∙◌}
+use Rattle.std.proofs.Common.{◌≡◌, ℕ, List, Ok, Err, Result, sym, refl, ap}
 use Rattle.answers.specs.Told.{Told, unchanged, replaced, refused, answer_of, area_of}
 use Rattle.answers.specs.declared.OutputTooShort.{OutputTooShort as Short}
 use Rattle.scopes.specs.Notes.{PairMemory}

@@ -1,9 +1,9 @@
 -- The pair of a replaced text is noted, or the call is refused.
-use Rattle.std.proofs.Common.{◌≡◌, ℕ, ◌-◌, Bool, true, false, cond, List, [], length, take, replicate, Ok, Err, Result, sym, refl, ap, ◌∙◌, subst, arith}
+use Rattle.std.proofs.Common.{◌≡◌, ℕ, ◌-◌, Bool, true, false, cond, List, [], length, take, replicate, Ok, Err, Result, sym, ap, ◌∙◌, arith}
 use Rattle.std.proofs.lemmas.List.{take_at}
 use Rattle.answers.specs.Told.{Told, unchanged, replaced, refused, answer_of, area_of, fronted, text_of}
 use Rattle.answers.specs.declared.Answer.{Answer}
-use Rattle.answers.specs.declared.Answer.TheVariants.{Replaced, Unchanged}
+use Rattle.answers.specs.declared.Answer.TheVariants.{Replaced}
 use Rattle.scopes.specs.Notes.{PairMemory, note_answer, note_memory, noted, unplaced}
 use Rattle.scopes.specs.declared.note.PairsFull.{PairsFull}
 use Rattle.scopes.proofs.PlacedLaws.{on_full, on_noted}

@@ -1,5 +1,5 @@
 -- What the walk tells, as the call's.
-use Rattle.std.proofs.Common.{◌≡◌, ℕ, Bool, List, Ok, Err, Result, sym, refl, ap, ◌∙◌, arith}
+use Rattle.std.proofs.Common.{◌≡◌, ℕ, List, Ok, Err, Result, refl, ap, ◌∙◌, arith}
 use Rattle.answers.specs.Told.{Told, unchanged, replaced, refused, answer_of, area_of}
 use Rattle.answers.specs.declared.Answer.{Answer}
 use Rattle.budget.specs.declared.WorkBudget.{WorkBudget}

@@ -7,7 +7,6 @@ use Rattle.answers.specs.declared.Answer.{Answer}
 use Rattle.names.specs.declared.PropertySyntax.{PropertySyntax}
 use Rattle.names.specs.declared.PropertySyntax.TheVariants.{Braced, BracedOrBare, DockerCompose}
 use Rattle.source.specs.Shapes.{shapes, values}
-use Rattle.pairs.specs.Pairs.{Pair}
 use Rattle.scopes.specs.Notes.{PairMemory, noted, unplaced}
 use Rattle.expansion.specs.Walks.{Limits, Outcome, walk}
 use Rattle.walk.specs.Outcomes.{frames_needed, told_by, total_left}

@@ -1,5 +1,5 @@
 -- How a walk ends.
-use Rattle.std.proofs.Common.{◌≡◌, ℕ, ◌-◌, ◌^◌, ◌<◌, ◌≤◌, Bool, true, false, cond, leb, List, [], ◌∷◌, length, replicate, None, Ok, Err, Option, Result, sym, refl, ap, ◌∙◌, subst, arith, Bor, MutBor}
+use Rattle.std.proofs.Common.{◌≡◌, ℕ, ◌-◌, ◌^◌, ◌<◌, ◌≤◌, Bool, true, false, cond, leb, List, [], ◌∷◌, length, replicate, None, Ok, Err, Option, Result, sym, refl, ap, ◌∙◌, subst, arith, MutBor}
 use Rattle.output.specs.declared.Output.{Output}
 use Rattle.output.specs.Outputs.{Holds, closed, counted, fitted}
 use Rattle.walk.specs.declared.interpolate.InterpolateError.{InterpolateError}

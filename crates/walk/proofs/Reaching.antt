@@ -1,5 +1,5 @@
 -- A walk goes on: what each event makes of what it has reached.
-use Rattle.std.proofs.Common.{◌≡◌, ℕ, ◌+◌, ◌^◌, ◌<◌, ◌≤◌, Bool, true, false, ◌||◌, List, [], ◌∷◌, ◌++◌, length, Some, Ok, Err, Option, Result, sym, refl, ap, ◌∙◌, subst, append-nil, arith, Bor, MutBor}
+use Rattle.std.proofs.Common.{◌≡◌, ℕ, ◌+◌, ◌^◌, ◌<◌, ◌≤◌, Bool, true, false, ◌||◌, List, [], ◌∷◌, ◌++◌, length, Some, Ok, Err, Option, Result, sym, refl, ap, ◌∙◌, subst, append-nil, arith, MutBor}
 use Rattle.std.proofs.lemmas.Bool.{cond-true, cond-false, le-ltb, lt-ltb}
 use Rattle.std.specs.Option.{option_map}
 use Rattle.budget.specs.declared.WorkBudget.{WorkBudget}
@@ -14,7 +14,7 @@ use Rattle.output.specs.declared.Output.{Output}
 use Rattle.output.specs.Outputs.{Grows, Holds}
 use Rattle.expansion.proofs.EndLaws.{run_emits}
 use Rattle.walk.specs.declared.marks.Marks.{Marks}
-use Rattle.expansion.specs.Events.{Event, begins, charge, charges, emit, emits, message, nest, replaced, refused}
+use Rattle.expansion.specs.Events.{Event, begins, charge, charges, emit, emits, message, nest, replaced}
 use Rattle.expansion.specs.Walks.{Limits, Outcome, missing, run, shown, stopped}
 use Rattle.walk.specs.Frames.{Message, Reached, State, Stopped, Tells, marked_replaced, marked_shows, state}
 use Rattle.walk.proofs.Choosing.{len_of_value, shows_by_len}

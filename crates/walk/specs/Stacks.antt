@@ -1,5 +1,5 @@
 -- The frames that are open, the first opened at the front.
-use Rattle.std.specs.Prelude.{◌≡◌, ℕ, ◌+◌, ◌-◌, ◌*◌, ◌/◌, ◌<◌, ◌≤◌, List, [], ◌∷◌, length, Ok, Err, Option, Result}
+use Rattle.std.specs.Prelude.{ℕ, ◌+◌, ◌-◌, ◌*◌, ◌/◌, ◌<◌, ◌≤◌, List, [], ◌∷◌, length, Ok, Err, Option, Result}
 use Rattle.std.specs.Borrow.{MutBor}
 use Rattle.names.specs.declared.PropertySyntax.{PropertySyntax}
 use Rattle.source.specs.Shapes.{Shape, shapes}

@@ -1,6 +1,5 @@
-use Rattle.std.proofs.Common.{◌≡◌, ◌≤◌, length, Err, sym, ap, ◌∙◌, subst, arith}
+use Rattle.std.proofs.Common.{length, Err, sym, ap, ◌∙◌, arith}
 use Rattle.std.proofs.lemmas.Bool.{cond-true, cond-false, le-ltb}
-use Rattle.std.specs.Str.{IsValidUpTo}
 use Rattle.text.specs.declared.TextError.TheVariants.{NotUtf8}
 use Rattle.text.proofs.PartLaws.{no_text}
 use Rattle.text.proofs.TextLaws.{formed_decides, formed_is, formed_unless}

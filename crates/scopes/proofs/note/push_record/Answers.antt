@@ -1,4 +1,4 @@
-use Rattle.std.proofs.Common.{◌≡◌, length, set, ◌∙◌, ap₂, rules}
+use Rattle.std.proofs.Common.{length, set, ◌∙◌, ap₂, rules}
 use Rattle.scopes.proofs.NotesLaws.{set_behind}
 use Rattle.scopes.proofs.note.push_record.Goals as goal
 

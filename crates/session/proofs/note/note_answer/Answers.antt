@@ -1,5 +1,5 @@
-use Rattle.std.proofs.Common.{◌≡◌, length, ap, ◌∙◌}
-use Rattle.answers.specs.Told.{answer_of, area_of}
+use Rattle.std.proofs.Common.{length, ap, ◌∙◌}
+use Rattle.answers.specs.Told.{answer_of}
 use Rattle.scopes.specs.Notes.{memory}
 use Rattle.session.specs.Shown.{denied}
 use Rattle.session.proofs.NoteLaws.{placed, unplaced_refused}

@@ -1,11 +1,10 @@
-use Rattle.std.proofs.Common.{◌≡◌, ℕ, Bool, List, length, sym, ap, ◌∙◌}
-use Rattle.answers.specs.Told.{Told, answer_of, area_of}
-use Rattle.pairs.specs.Pairs.{Pair, firsts}
-use Rattle.pairs.specs.Lists.{listed, scope}
+use Rattle.std.proofs.Common.{ℕ, Bool, length, sym, ap, ◌∙◌}
+use Rattle.answers.specs.Told.{answer_of, area_of}
+use Rattle.pairs.specs.Pairs.{firsts}
+use Rattle.pairs.specs.Lists.{scope}
 use Rattle.scopes.specs.Marks.{sound}
 use Rattle.redaction.specs.Redactions.{message_fallback, redacted}
 use Rattle.session.specs.Shown.{as_shown, denied, shown_answer, shown_checked}
-use Rattle.session.specs.declared.error.CallError.{CallError}
 use Rattle.session.proofs.CheckLaws.{area_is, on_passed, on_refused, shown_is}
 use Rattle.session.proofs.redactions.redact_custom_message.Goals as goal
 

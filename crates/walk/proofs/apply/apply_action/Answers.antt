@@ -1,4 +1,4 @@
-use Rattle.std.proofs.Common.{◌≡◌, [], ◌∷◌, None, Ok, sym, refl, ◌∙◌, subst, arith}
+use Rattle.std.proofs.Common.{[], ◌∷◌, None, Ok, sym, refl, subst, arith}
 use Rattle.items.specs.Pieces.{lit}
 use Rattle.items.specs.Looks.{Known}
 use Rattle.walk.specs.Frames.{Applies, OpensBy, state}

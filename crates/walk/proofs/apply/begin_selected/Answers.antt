@@ -1,4 +1,4 @@
-use Rattle.std.proofs.Common.{◌≡◌, ◌⊎◌, ◌∷◌, refl, ap, inl, inr}
+use Rattle.std.proofs.Common.{◌≡◌, ◌∷◌, refl, ap, inl, inr}
 use Rattle.expansion.specs.Events.{begins, replaced}
 use Rattle.walk.specs.Frames.{begun_by}
 use Rattle.walk.proofs.Reaching.{reach_begins, reach_replaced, reach_same}

@@ -1,4 +1,4 @@
-use Rattle.std.proofs.Common.{◌≡◌, [], sym, ap, ◌∙◌, subst, arith}
+use Rattle.std.proofs.Common.{[], sym, ap, ◌∙◌, subst, arith}
 use Rattle.output.specs.declared.Output.{Output}
 use Rattle.walk.specs.Frames.{Message}
 use Rattle.walk.proofs.Reaching.{message_pieces, message_source}

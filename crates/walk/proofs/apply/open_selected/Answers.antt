@@ -1,4 +1,3 @@
-use Rattle.std.proofs.Common.{◌≡◌}
 use Rattle.walk.proofs.Reaching.{reach_nest, stop_nest}
 use Rattle.walk.proofs.apply.open_selected.Goals as goal
 

@@ -1,4 +1,3 @@
-use Rattle.std.proofs.Common.{◌≡◌, ◌∙◌}
 use Rattle.walk.proofs.Reaching.{reach_literal}
 use Rattle.walk.proofs.apply.put_selected.Goals as goal
 

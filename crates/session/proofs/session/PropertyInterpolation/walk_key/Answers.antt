@@ -1,7 +1,6 @@
-use Rattle.std.proofs.Common.{◌≡◌, ℕ, List, length, Result, sym, ap, ◌∙◌}
-use Rattle.answers.specs.Told.{answer_of, area_of, unchanged}
+use Rattle.std.proofs.Common.{length, Result, sym, ap, ◌∙◌}
+use Rattle.answers.specs.Told.{answer_of, area_of}
 use Rattle.names.specs.declared.PropertySyntax.{PropertySyntax}
-use Rattle.names.specs.declared.PropertySyntax.TheVariants.{DockerCompose}
 use Rattle.scopes.specs.Notes.{memory, unplaced}
 use Rattle.session.specs.Calls.{Called, call_checked, heard, if_passed, key_walked, refusing}
 use Rattle.session.specs.Sessions.{is_sound, settings, with_total}
