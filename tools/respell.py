@@ -7,6 +7,7 @@ Words are in snake case and types in upper camel case; tools/respell.tsv has eac
 In specs/, proofs/ and the clauses of src/ and of must-fail edits a name of the table is replaced, comments of .rt and strings left alone.
 In specs/ and the lemma files of proofs/ every other name with a dash that no `use` line takes from a library is local, and gets underscores too.
 In the answers to goals only names of the table are replaced: the others there are made by the check.
+A field behind a word and a dot, as in `laws.name-bound`, stays: such a name may be one that the check made.
 """
 
 import os
@@ -16,7 +17,6 @@ import sys
 ROOT = sys.argv[1] if len(sys.argv) > 1 else "."
 HERE = os.path.dirname(os.path.realpath(__file__))
 NAME = re.compile(r"(?<![\w'.·-])(\.?)([A-Za-zℕ_][\w']*(?:-[\w'*]+)*)")
-WORD = re.compile(r"[^\s(){}.;,@\"]+")
 
 
 def table():
