@@ -1,21 +1,32 @@
 // The lines of the account: what a step did, and its counts.
+use crate::reply::Reply;
 use source::error::SourceError;
 use source::fetch::fetch_value;
 use source::source::PropertySource;
-use std::io;
+use std::{fmt, io};
 
 // The bytes of the output area that a value is laid into.
 const AREA: usize = 24;
 
 // What a step counts; none where it has no such count.
 #[derive(Clone, Copy)]
-struct Counts {
-    read: Option<usize>,
-    asked: Option<usize>,
-    written: Option<usize>,
-    zero: Option<usize>,
-    work: Option<usize>,
+pub(crate) struct Counts {
+    pub read: Option<usize>,
+    pub asked: Option<usize>,
+    pub written: Option<usize>,
+    pub zero: Option<usize>,
+    pub work: Option<usize>,
+    pub total: Option<usize>,
 }
+
+pub(crate) const NO_COUNTS: Counts = Counts {
+    read: None,
+    asked: None,
+    written: None,
+    zero: None,
+    work: None,
+    total: None,
+};
 
 fn cell(rt: &impl Print, count: Option<usize>) -> io::Result<()> {
     match count {
@@ -24,20 +35,36 @@ fn cell(rt: &impl Print, count: Option<usize>) -> io::Result<()> {
     }
 }
 
-fn line(rt: &impl Print, counts: Counts, step: &str, page: &str) -> io::Result<()> {
+fn cells(rt: &impl Print, counts: Counts) -> io::Result<()> {
     cell(rt, counts.read)?;
     cell(rt, counts.asked)?;
     cell(rt, counts.written)?;
     cell(rt, counts.zero)?;
     cell(rt, counts.work)?;
-    println!(rt; "  {step:<44}  {page}")
+    cell(rt, counts.total)
+}
+
+pub(crate) fn line(rt: &impl Print, counts: Counts, step: &str, page: &str) -> io::Result<()> {
+    cells(rt, counts)?;
+    println!(rt; "  {step:<52}  {page}")
+}
+
+// What came of a step, below its line.
+pub(crate) fn note(rt: &impl Print, what: &impl fmt::Display) -> io::Result<()> {
+    println!(rt; "{:50}{what}", "")
 }
 
 pub(crate) fn heading(rt: &impl Print) -> io::Result<()> {
     println!(rt;
-        "{:>8}{:>8}{:>8}{:>8}{:>8}  {:<44}  page",
-        "read", "asked", "written", "zero", "work", "step"
+        "{:>8}{:>8}{:>8}{:>8}{:>8}{:>8}  {:<52}  page",
+        "read", "asked", "written", "zero", "work", "total", "step"
     )
+}
+
+// A part of the account.
+pub(crate) fn part(rt: &impl Print, title: &str) -> io::Result<()> {
+    println!(rt)?;
+    println!(rt; "{title}")
 }
 
 // The check of a source of `read` bytes.
@@ -48,21 +75,14 @@ pub(crate) fn checked(
     verdict: Result<(), SourceError>,
     page: &str,
 ) -> io::Result<()> {
-    line(
-        rt,
-        Counts {
-            read: Some(read),
-            asked: None,
-            written: None,
-            zero: None,
-            work: None,
-        },
-        step,
-        page,
-    )?;
+    let counts = Counts {
+        read: Some(read),
+        ..NO_COUNTS
+    };
+    line(rt, counts, step, page)?;
     match verdict {
-        Ok(()) => println!(rt; "{:42}lawful", ""),
-        Err(error) => println!(rt; "{:42}refused: {error:?}", ""),
+        Ok(()) => note(rt, &"lawful"),
+        Err(error) => println!(rt; "{:50}refused: {error:?}", ""),
     }
 }
 
@@ -82,7 +102,7 @@ pub(crate) fn delivered<S: PropertySource>(
         asked,
         written: Some(end),
         zero: Some(AREA - end),
-        work: None,
+        ..NO_COUNTS
     };
     line(rt, counts, step, "docs/SOURCES.md, Questions")?;
     arrived(rt, asked.is_some(), &area[0..end], typed)
@@ -92,15 +112,24 @@ pub(crate) fn delivered<S: PropertySource>(
 fn arrived(rt: &impl Print, is_set: bool, bytes: &[u8], typed: &[u8]) -> io::Result<()> {
     let text = text_of(bytes);
     if !is_set {
-        println!(rt; "{:42}unset", "")
+        note(rt, &"unset")
     } else if bytes == typed {
-        println!(rt; "{:42}text, as typed: {text}", "")
+        println!(rt; "{:50}text, as typed: {text}", "")
     } else {
-        println!(rt; "{:42}text, not as typed: {text}", "")
+        println!(rt; "{:50}text, not as typed: {text}", "")
     }
 }
 
-fn text_of(bytes: &[u8]) -> &str {
+// A call of a session, and what it told.
+pub(crate) fn told(rt: &impl Print, reply: &Reply, page: &str) -> io::Result<()> {
+    cells(rt, reply.counts())?;
+    let call = reply.call;
+    let text = text_of(reply.text);
+    println!(rt; "  {call:<10} {text:<41}  {page}")?;
+    note(rt, reply)
+}
+
+pub(crate) fn text_of(bytes: &[u8]) -> &str {
     match std::str::from_utf8(bytes) {
         Ok(text) => text,
         Err(_) => "(no text)",

@@ -1,5 +1,5 @@
 -- The reading of a name as far as it has come.
-use Rattle.std.proofs.Common.{◌≡◌, ℕ, zero, suc, ◌+◌, ◌-◌, ◌<◌, ◌≤◌, Bool, true, false, cond, eqb, List, [], ◌∷◌, ◌++◌, length, take, drop, Some, None, Ok, Err, Option, sym, refl, ap, ◌∙◌, subst, arith, length-drop}
+use Rattle.std.proofs.Common.{◌≡◌, ℕ, zero, suc, ◌+◌, ◌-◌, ◌<◌, ◌≤◌, Bool, true, false, cond, eqb, List, [], ◌∷◌, ◌++◌, length, take, drop, Some, None, Ok, Err, Option, sym, refl, ap, ◌∙◌, subst, arith, length-append, length-drop}
 use Rattle.std.proofs.lemmas.List.{drop-drop, take-append-drop, take_rest}
 use Rattle.std.proofs.lemmas.Bool.{cond-false, ne_eqb}
 use Rattle.budget.specs.declared.WorkBudget.{WorkBudget}
@@ -60,6 +60,7 @@ module _ {s : PropertySyntax} {bs : List ℕ} {w₀ w : WorkBudget} {n : ℕ} (r
 -- A name and the rest after it are the whole, and a name has a byte.
 pub record Named (bs : List ℕ) (p : List ℕ × List ℕ) : Type 0 where
   pub whole : bs ≡ p.0 ++ p.1
+  pub fills : length p.0 + length p.1 ≡ length bs
   pub some : 0 < length p.0
 
 pub named : (s : PropertySyntax) (bs : List ℕ) (p : List ℕ × List ℕ) → Some p ≡ name_at s bs → Named bs p
@@ -72,4 +73,5 @@ named s (b ∷ bs) p e = go (name_end s 0 (glyphs (b ∷ bs))) e
     go (suc n) e =
         let cut : Some p ≡ Some (take (suc n) (b ∷ bs), drop (suc n) (b ∷ bs)) = e ∙ cond-false (eqb (suc n) 0) _ _ (ne_eqb (suc n) 0 (λ z. omega arith)) in
         let same : (take (suc n) (b ∷ bs), drop (suc n) (b ∷ bs)) ≡ p = cc in
-        subst (Named (b ∷ bs)) same (record { whole = sym (take-append-drop (suc n) (b ∷ bs)); some = omega arith })
+        let whole = take-append-drop (suc n) (b ∷ bs) in
+        subst (Named (b ∷ bs)) same (record { whole = sym whole; fills = sym (length-append (take (suc n) (b ∷ bs)) (drop (suc n) (b ∷ bs))) ∙ ap length whole; some = omega arith })

@@ -2,4 +2,4 @@ pub mod FirstsLaws
 pub mod KeptLaws
 mod ListsLaws
 pub mod News
-mod RecordsLaws
+pub mod RecordsLaws

@@ -22,6 +22,13 @@ fn part(bytes: &[u8], from: usize, to: usize) -> &[u8]
 }
 
 impl PairRecord {
+    // A record to fill lent memory with: `[PairRecord::EMPTY; 8]`.
+    pub const EMPTY: PairRecord = PairRecord {
+        at: 0,
+        text: 0,
+        result: 0,
+    };
+
     // Whether the pair lies inside n bytes.
     pub fn is_within(self, n: usize) -> bool
         ensures { result ≡ within n self }

@@ -5,8 +5,8 @@ use Rattle.matches.specs.Places.{places}
 use Rattle.pairs.specs.Lookups.{lookup}
 use Rattle.pairs.specs.Pairs.{Pair}
 use Rattle.redaction.specs.Orders.{longest_first}
-use Rattle.redaction.specs.Redactions.{Outcome, State, ended, fitted, fitting, identified, redacted, step, steps, turn}
-use Rattle.redaction.specs.Redactions.Outcome.{shown, too_short, unchanged}
+use Rattle.redaction.specs.Redactions.{Redacted, State, ended, fitted, identified, redacted, shown, step, steps, too_short, turn}
+use Rattle.answers.specs.Told.{refused, replaced, unchanged}
 use Rattle.redaction.specs.Redactions.State.{fallen, going, short}
 use Rattle.redaction.specs.Splices.{spliced}
 
@@ -17,10 +17,10 @@ Room fallen = Unit {0}
 Room (short m) = ⊥
 
 -- the redaction is not refused
-abbrev pub Answered : Outcome → Type 0
+abbrev pub Answered : Redacted → Type 0
 Answered unchanged = Unit {0}
-Answered (shown text) = Unit {0}
-Answered (too_short m) = ⊥
+Answered (replaced text) = Unit {0}
+Answered (refused e message) = ⊥
 
 module _ (n m : ℕ) (more : n ≤ m) where
   fitted_raised : (text : List ℕ) → Room (fitted n text) → fitted m text ≡ fitted n text
@@ -52,10 +52,10 @@ module _ (n m : ℕ) (more : n ≤ m) where
   steps_raised s (p ∷ ps) room =
       ap (λ t. steps m t ps) (step_raised s p (room_before (step n s p) ps room)) ∙ steps_raised (step n s p) ps room
 
-  pub fitting_raised : (text : List ℕ) → Answered (fitting n text) → fitting m text ≡ fitting n text
-  fitting_raised text ok = go (leb (length text) n) refl ok
+  pub shown_raised : (text : List ℕ) → Answered (shown n text) → shown m text ≡ shown n text
+  shown_raised text ok = go (leb (length text) n) refl ok
     where
-      go : (b : Bool) → leb (length text) n ≡ b → Answered (cond b (shown text) (too_short (length text))) → fitting m text ≡ cond b (shown text) (too_short (length text))
+      go : (b : Bool) → leb (length text) n ≡ b → Answered (cond b (replaced text) (refused (too_short (length text)) [])) → shown m text ≡ cond b (replaced text) (refused (too_short (length text)) [])
       go true t r = cond-true _ _ _ (le-leb (length text) m (omega (arith, leb-true (length text) n t)))
       go false t r = absurd r
 
@@ -66,8 +66,8 @@ module _ (n m : ℕ) (more : n ≤ m) where
 
   ended_raised : (fallback : List ℕ) (s : State) → Answered (ended n fallback s) → ended m fallback s ≡ ended n fallback s
   ended_raised fallback (going true text) ok = refl
-  ended_raised fallback (going false text) ok = fitting_raised fallback ok
-  ended_raised fallback fallen ok = fitting_raised fallback ok
+  ended_raised fallback (going false text) ok = shown_raised fallback ok
+  ended_raised fallback fallen ok = shown_raised fallback ok
   ended_raised fallback (short k) ok = refl
 
   pub redacted_raised : (fallback : List ℕ) (ps : List Pair) (text : List ℕ) → Answered (redacted n fallback ps text) → redacted m fallback ps text ≡ redacted n fallback ps text
@@ -79,4 +79,4 @@ module _ (n m : ℕ) (more : n ≤ m) where
 
   pub identified_raised : (fallback : List ℕ) (ps : List Pair) (name : List ℕ) → Answered (identified n fallback ps name) → identified m fallback ps name ≡ identified n fallback ps name
   identified_raised fallback [] name ok = refl
-  identified_raised fallback (p ∷ ps) name ok = fitting_raised (unwrap_or (lookup (p ∷ ps) name) fallback) ok
+  identified_raised fallback (p ∷ ps) name ok = shown_raised (unwrap_or (lookup (p ∷ ps) name) fallback) ok

@@ -1,6 +1,8 @@
 -- The redaction of a message, a value or an identifier, in an area of n bytes, by the pairs of a scope.
 use Rattle.std.specs.Prelude.{ℕ, Bool, true, false, cond, List, [], ◌∷◌, length, codes, nat_le}
 use Rattle.std.specs.Option.{unwrap_or}
+use Rattle.answers.specs.Told.{Told, unchanged, replaced, refused, fitting}
+use Rattle.answers.specs.declared.OutputTooShort.{OutputTooShort}
 use Rattle.matches.specs.Places.{places}
 use Rattle.pairs.specs.Lookups.{lookup}
 use Rattle.pairs.specs.Pairs.{Pair}
@@ -32,24 +34,25 @@ abbrev pub steps : ℕ → State → List Pair → State
 steps n s [] = s
 steps n s (p ∷ ps) = steps n (step n s p) ps
 
--- What is to be shown: the text given, another, or none, since one of that length did not fit.
-pub data Outcome : Type 0 where
-  unchanged : Outcome
-  shown : List ℕ → Outcome
-  too_short : ℕ → Outcome
+-- What a redaction tells: the text given may be shown, another, or none, since one of that length did not fit.
+abbrev pub Redacted : Type 0
+Redacted = Told OutputTooShort
 
-abbrev pub fitting : ℕ → List ℕ → Outcome
-fitting n text = cond (nat_le (length text) n) (shown text) (too_short (length text))
+abbrev pub too_short : ℕ → OutputTooShort
+too_short needed = record { needed = needed }
+
+abbrev pub shown : ℕ → List ℕ → Redacted
+shown n text = fitting n too_short text (replaced text)
 
 -- Without a replacement it is the fallback.
-abbrev pub ended : ℕ → List ℕ → State → Outcome
-ended n fallback (going true text) = shown text
-ended n fallback (going false text) = fitting n fallback
-ended n fallback fallen = fitting n fallback
-ended n fallback (short m) = too_short m
+abbrev pub ended : ℕ → List ℕ → State → Redacted
+ended n fallback (going true text) = replaced text
+ended n fallback (going false text) = shown n fallback
+ended n fallback fallen = shown n fallback
+ended n fallback (short m) = refused (too_short m) []
 
 -- A message or a value. Without a pair it is unchanged.
-abbrev pub redacted : ℕ → List ℕ → List Pair → List ℕ → Outcome
+abbrev pub redacted : ℕ → List ℕ → List Pair → List ℕ → Redacted
 redacted n fallback [] text = unchanged
 redacted n fallback (p ∷ ps) text = ended n fallback (steps n (going false text) (longest_first (p ∷ ps)))
 
@@ -58,6 +61,6 @@ abbrev pub message_fallback : List ℕ
 message_fallback = codes "invalid interpolated scalar value"
 
 -- An identifier: the text of the first pair whose result it is, else the fallback.
-abbrev pub identified : ℕ → List ℕ → List Pair → List ℕ → Outcome
+abbrev pub identified : ℕ → List ℕ → List Pair → List ℕ → Redacted
 identified n fallback [] name = unchanged
-identified n fallback (p ∷ ps) name = fitting n (unwrap_or (lookup (p ∷ ps) name) fallback)
+identified n fallback (p ∷ ps) name = shown n (unwrap_or (lookup (p ∷ ps) name) fallback)

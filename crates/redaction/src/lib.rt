@@ -1,6 +1,5 @@
 #![tactic(auto)]
 
-pub mod answer;
 mod course;
 pub mod redact;
 mod splice;

@@ -1,22 +1,22 @@
 ghost use Rattle.std.specs.Prelude.{◌≡◌, length};
 ghost use Rattle.pairs.specs.Lists.{scope};
 ghost use Rattle.pairs.specs.Once.{EachOnce};
-ghost use Rattle.redaction.specs.Answers.{answer_of, area_of};
+ghost use Rattle.answers.specs.Told.{answer_of, area_of};
 ghost use Rattle.redaction.specs.Orders.{LongestFirst};
-ghost use Rattle.redaction.specs.Redactions.{fitting, identified, message_fallback, redacted};
+ghost use Rattle.redaction.specs.Redactions.{shown, identified, message_fallback, redacted};
 
-use crate::answer::{Answer, OutputTooShort};
 use crate::course::Course;
 use crate::steps::take_pairs;
+use answers::{Answer, OutputTooShort};
 use pairs::list::PairList;
 
 // What a message shows where its bytes may not be shown.
-const MESSAGE_FALLBACK: &[u8] = b"invalid interpolated scalar value";
+pub const MESSAGE_FALLBACK: &[u8] = b"invalid interpolated scalar value";
 
 // A text at the front of the area, and zeros behind it; zeros alone where it does not fit.
 fn show(text: &[u8], area: &mut [u8]) -> Result<Answer, OutputTooShort>
-    ensures says { result ≡ answer_of (fitting (length area.old) text.now) }
-    ensures area { area.new ≡ area_of (length area.old) (fitting (length area.old) text.now) }
+    ensures says { result ≡ answer_of (shown (length area.old) text.now) }
+    ensures area { area.new ≡ area_of (length area.old) (shown (length area.old) text.now) }
 {
     area.fill(0);
     let len = text.len();

@@ -1,5 +1,5 @@
-use crate::answer::{Answer, OutputTooShort};
 use crate::redact::{redact_identifier, redact_message, redact_value};
+use answers::{Answer, OutputTooShort};
 use pairs::list::PairList;
 use pairs::record::PairRecord;
 

@@ -1,13 +1,10 @@
 -- A reference in braces, read step by step: the close, the name, the operator.
 use Rattle.std.proofs.Common.{◌≡◌, ℕ, ◌+◌, ◌-◌, ◌<◌, ◌≤◌, Bool, true, false, cond, eqb, List, [], ◌∷◌, ◌++◌, length, take, drop, IfSome, Some, None, Ok, Err, Option, sym, refl, ap, ◌∙◌, subst, append-nil, arith, length-drop}
-use Rattle.std.proofs.lemmas.List.{length-take}
 use Rattle.std.proofs.lemmas.Bool.{eqb-false}
 use Rattle.budget.specs.declared.WorkBudget.{WorkBudget}
 use Rattle.budget.specs.declared.WorkFault.{WorkFault}
 use Rattle.budget.proofs.Calls.{Broke, Left, Paid, Went, left_all, left_at, left_more, left_none, left_over}
 use Rattle.names.specs.declared.PropertySyntax.{PropertySyntax}
-use Rattle.names.specs.Names.{name_end}
-use Rattle.names.specs.Glyphs.{glyphs}
 use Rattle.names.specs.Reads.{name_at, name_looks}
 use Rattle.closes.specs.Closes.{close, close_looks}
 use Rattle.closes.specs.Fronts.{begins}
@@ -41,22 +38,6 @@ module _ {w₀ w : WorkBudget} (s : PropertySyntax) (bs : List ℕ) where
 -- a place that was found lies within
 pub inside : {o : Option ℕ} {k : ℕ} (n : ℕ) → o ≡ Some k → IfSome o (λ j. j < n) → k < n
 inside {o} {k} n e h = subst (λ q. IfSome q (λ j. j < n)) e h
-
--- a name with its rest fills what it was read from
-pub name_fills : (s : PropertySyntax) (bs name rest : List ℕ) → Some (name, rest) ≡ name_at s bs → (length name + length rest ≡ length bs) × (0 < length name)
-unfolding glyphs
-name_fills s [] name rest e = let z : ◌≡◌ {A = ℕ} 0 1 = cc in absurd (omega arith)
-name_fills s (b ∷ bs) name rest e = go (name_end s 0 (glyphs (b ∷ bs))) (eqb (name_end s 0 (glyphs (b ∷ bs))) 0) refl e
-  where
-    go : (n : ℕ) (t : Bool) → t ≡ eqb n 0 → ◌≡◌ {A = Option (List ℕ × List ℕ)} (Some (name, rest)) (cond t None (Some (take n (b ∷ bs), drop n (b ∷ bs))))
-        → (length name + length rest ≡ length (b ∷ bs)) × (0 < length name)
-    go n true i h = let z : ◌≡◌ {A = ℕ} 0 1 = cc in absurd (omega arith)
-    go n false i h =
-        let both : ◌≡◌ {A = List ℕ × List ℕ} (name, rest) (take n (b ∷ bs), drop n (b ∷ bs)) = cc in
-        let l = ap (λ p. length p.0) both ∙ length-take n (b ∷ bs) in
-        let m = ap (λ p. length p.1) both ∙ length-drop n (b ∷ bs) in
-        let some : n ≡ 0 → ⊥ = eqb-false n 0 (sym i) in
-        (omega arith, omega arith)
 
 -- a word lies behind its operator
 pub op_fits : (rest : List ℕ) (op : Op) → Some op ≡ op_at rest → word_len op ≤ length rest

@@ -1,7 +1,7 @@
--- The place of the first `$`, which is 36.
-use Rattle.std.specs.Prelude.{ℕ, ◌+◌, cond, List, [], ◌∷◌, Some, None, Option, ◌==◌}
+-- A search for `$` that has come to a place.
+use Rattle.std.specs.Prelude.{◌≡◌, ℕ, List, drop}
+use Rattle.expansion.specs.Events.{first_dollar}
 
--- i is the place of the first byte
-abbrev pub first_dollar : ℕ → List ℕ → Option ℕ
-first_dollar i [] = None
-first_dollar i (b ∷ bs) = let r : Option ℕ = first_dollar (i + 1) bs in cond (b == 36) (Some i) r
+-- what is left of the text from the place i on has its first `$`
+abbrev pub Passed : List ℕ → ℕ → Type 0
+Passed text i = first_dollar 0 text ≡ first_dollar i (drop i text)

@@ -1,24 +1,12 @@
 // Whether text has to be walked.
 #![tactic(auto)]
 
-ghost use Rattle.std.specs.Prelude.{◌≡◌, ◌<◌, length, IfSome};
+pub mod dollar;
+
+ghost use Rattle.std.specs.Prelude.{◌≡◌};
 ghost use Rattle.items.specs.Items.{expands, expands_here, more_than_itself};
-ghost use Rattle.selected.specs.Dollars.{first_dollar};
 
 use names::{PropertySyntax, begins_name};
-
-// The place of the first `$`.
-pub fn find_dollar(text: &[u8]) -> Option<usize>
-    ensures place { result ≡ first_dollar 0 text.now }
-    ensures within { IfSome result (λ k. k < length text.now) }
-{
-    for (i, &byte) in text.iter().enumerate() {
-        if byte == b'$' {
-            return Some(i);
-        }
-    }
-    None
-}
 
 // Whether a `$` of DockerCompose is more than itself, by the bytes behind it.
 fn is_more_than_itself(rest: &[u8]) -> bool

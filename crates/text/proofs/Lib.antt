@@ -1,1 +1,2 @@
+mod PartLaws
 pub mod TextLaws

@@ -14,7 +14,11 @@ abbrev pub formed_within : ℕ → List ℕ → ℕ
 formed_within zero bs = 0
 formed_within (suc k) bs = cond (well_formed (take (suc k) bs)) (suc k) (formed_within k bs)
 
+-- the longest text that a call takes
+abbrev pub text_max : ℕ
+text_max = 8192
+
 -- The answer of the check of a text: too long comes before ill-formed, which is told by how far it is well-formed.
 abbrev pub text_verdict : List ℕ → Result (Unit {0}) TextError
 text_verdict bs =
-    cond (nat_lt 8192 (length bs)) (Err TooLong) (cond (well_formed bs) (Ok tt) (Err (NotUtf8 (formed_within (length bs) bs))))
+    cond (nat_lt text_max (length bs)) (Err TooLong) (cond (well_formed bs) (Ok tt) (Err (NotUtf8 (formed_within (length bs) bs))))

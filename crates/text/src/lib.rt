@@ -5,13 +5,17 @@ ghost use Rattle.std.specs.Prelude.{◌≡◌, IsUtf8, Decides};
 ghost use Rattle.text.specs.Refusals.{refusal_number};
 ghost use Rattle.text.specs.Texts.{text_verdict, well_formed};
 
+mod utf8;
+
+use utf8::check_utf8;
+
 // Whether the bytes are well-formed UTF-8.
 pub fn is_utf8(bytes: &[u8]) -> bool
     ensures value { result ≡ well_formed bytes.now }
     ensures tells { Decides result (IsUtf8 bytes.now) }
 {
-    match std::str::from_utf8(bytes) {
-        Ok(_) => true,
+    match check_utf8(bytes) {
+        Ok(()) => true,
         Err(_) => false,
     }
 }
@@ -47,8 +51,8 @@ pub fn check_text(bytes: &[u8]) -> Result<(), TextError>
     if bytes.len() > TEXT_MAX {
         return Err(TextError::TooLong);
     }
-    match std::str::from_utf8(bytes) {
-        Ok(_) => Ok(()),
-        Err(error) => Err(TextError::NotUtf8(error.valid_up_to())),
+    match check_utf8(bytes) {
+        Ok(()) => Ok(()),
+        Err(valid) => Err(TextError::NotUtf8(valid)),
     }
 }

@@ -9,7 +9,7 @@ use Rattle.items.specs.declared.action.FrameCompletion.TheVariants.{Root, Append
 use Rattle.items.specs.Pieces.{is_filled}
 use Rattle.items.specs.Items.{expands}
 use Rattle.items.specs.Looks.{chosen}
-use Rattle.walk.specs.Events.{Event, acts, charge, explained, message, selected}
+use Rattle.expansion.specs.Events.{Event, acts, charge, explained, message, selected}
 use Rattle.walk.specs.Frames.{Opens, OpensBy, Proper, open_events, put_events}
 use Rattle.references.specs.declared.error.PropertyError.{PropertyError}
 use Rattle.items.specs.declared.action.Action.TheVariants.{Interpolate}

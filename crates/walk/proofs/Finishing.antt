@@ -1,22 +1,30 @@
 -- How a walk ends.
-use Rattle.std.proofs.Common.{◌≡◌, ℕ, ◌≤◌, Bool, true, false, cond, leb, List, [], length, Ok, Err, Option, Result, sym, refl, ap, ◌∙◌, subst, arith, MutBor}
+use Rattle.std.proofs.Common.{◌≡◌, ℕ, ◌-◌, ◌^◌, ◌<◌, ◌≤◌, Bool, true, false, cond, leb, List, [], ◌∷◌, length, replicate, None, Ok, Err, Option, Result, sym, refl, ap, ◌∙◌, subst, arith, MutBor}
 use Rattle.output.specs.declared.Output.{Output}
-use Rattle.output.specs.Outputs.{Holds, counted, fitted}
-use Rattle.walk.specs.declared.interpolate.Interpolated.{Interpolated}
+use Rattle.output.specs.Outputs.{Holds, closed, counted, fitted}
 use Rattle.walk.specs.declared.interpolate.InterpolateError.{InterpolateError}
-use Rattle.walk.specs.declared.interpolate.InterpolateError.TheVariants.{OutputTooShort}
-use Rattle.std.proofs.lemmas.Bool.{cond-false, le-ltb}
+use Rattle.walk.specs.declared.interpolate.InterpolateError.TheVariants.{OutputTooShort, Refused}
+use Rattle.std.proofs.lemmas.Bool.{cond-false, cond-true, le-leb, le-ltb}
+use Rattle.budget.specs.Charges.{Work, taken, over, ending, total_of, works}
 use Rattle.budget.specs.declared.WorkBudget.{WorkBudget}
 use Rattle.names.specs.declared.PropertySyntax.{PropertySyntax}
 use Rattle.source.specs.Shapes.{shapes, values}
 use Rattle.references.specs.declared.error.PropertyError.{PropertyError}
 use Rattle.references.specs.declared.error.PropertyError.TheVariants as E
-use Rattle.items.specs.Pieces.{spelled}
+use Rattle.items.specs.Pieces.{Piece, literal, spelled}
+use Rattle.answers.specs.Told.{Told, unchanged, replaced, refused, answer_of, area_of, fitting, fronted}
+use Rattle.text.specs.Texts.{text_max}
 use Rattle.walk.specs.declared.marks.Marks.{Marks}
-use Rattle.walk.specs.Events.{events}
-use Rattle.walk.specs.Walks.{Outcome, run, walk}
+use Rattle.expansion.specs.Events.{emits, events, first_dollar}
+use Rattle.expansion.specs.Walks.{Limits, Outcome, ended, run, stopped, walk}
+use Rattle.expansion.specs.Lengths.{Short}
+use Rattle.expansion.proofs.EndLaws.{run_emits}
+use Rattle.expansion.proofs.LengthLaws.{text_bounded}
 use Rattle.walk.specs.Frames.{Goes, Reached, Tells, state}
-use Rattle.walk.specs.Outcomes.{Settles, answer_by, answer_fit, answer_left, fitting, frames_needed, has_message, has_text, kept, limits, text_left, total_left, unless_refused}
+use Rattle.walk.specs.Endings.{Settles, answer_by, answer_fit, answer_kept, has_message, has_text, kept}
+use Rattle.walk.specs.Outcomes.{call_told, call_total, frames_needed, limits, told_by, total_left, unless_refused, walk_of}
+use Rattle.walk.proofs.Runs.{after, run_charges}
+use Rattle.walk.proofs.Starting.{begins_plain}
 
 -- what the output holds, once it was cleared where nothing is to be kept
 pub kept_all : (b : Bool) (out : Output) (lent : MutBor (List ℕ)) (text : List ℕ) → b ≡ true → Holds out lent text → Holds out lent (kept b text)
@@ -27,29 +35,51 @@ pub kept_none : (b : Bool) (out : Output) (lent : MutBor (List ℕ)) (text : Lis
 kept_none false out lent text e h = h
 kept_none true out lent text e h = let z : ◌≡◌ {A = ℕ} 0 1 = cc in absurd (omega arith)
 
-pub fitting_long : (n needed : ℕ) (text : List ℕ) (r : Result Interpolated InterpolateError) → Err needed ≡ fitted n (length text) → Err (OutputTooShort needed) ≡ fitting n text r
-fitting_long n needed text r e = go (leb (length text) n) e
-  where
-    go : (b : Bool) → Err needed ≡ cond b (Ok (length text)) (Err (counted (length text))) → Err (OutputTooShort needed) ≡ cond b r (Err (OutputTooShort (counted (length text))))
-    go true e = let z : ◌≡◌ {A = ℕ} 0 1 = cc in absurd (omega arith)
-    go false e = let z : needed ≡ counted (length text) = cc in ap (λ k. Err (OutputTooShort k)) z
+-- A length below 2^64 is counted as it is.
+counted_short : (n : ℕ) → n < 2 ^ 64 → counted n ≡ n
+counted_short n h = omega arith
 
-pub fitting_short : (n len : ℕ) (text : List ℕ) (f : ℕ → Result Interpolated InterpolateError) → Ok len ≡ fitted n (length text) → f len ≡ fitting n text (f (length text))
-fitting_short n len text f e = go (leb (length text) n) e
+-- what is told of a text that was put out, if it fits
+abbrev told_of : Result (Unit {0}) PropertyError → Bool → List ℕ → Told InterpolateError
+told_of (Ok r) true text = replaced text
+told_of (Ok r) false text = unchanged
+told_of (Err e) changed text = refused (Refused e) text
+
+answer_told : (walked : Result (Unit {0}) PropertyError) (changed : Bool) (text : List ℕ) → answer_by walked changed (length text) ≡ answer_of (told_of walked changed text)
+answer_told (Ok r) true text = refl
+answer_told (Ok r) false text = refl
+answer_told (Err e) changed text = refl
+
+module _ (n : ℕ) (text : List ℕ) (h : length text < 2 ^ 64) where
+  answer_fits : (walked : Result (Unit {0}) PropertyError) (changed : Bool) (fit : Result ℕ ℕ) → fit ≡ fitted n (length text) → answer_fit walked changed fit ≡ answer_of (fitting n OutputTooShort text (told_of walked changed text))
+  answer_fits walked changed fit e = ap (answer_fit walked changed) e ∙ go (leb (length text) n)
+    where
+      go : (b : Bool) → answer_fit walked changed (cond b (Ok (length text)) (Err (counted (length text)))) ≡ answer_of (cond b (told_of walked changed text) (refused (OutputTooShort (length text)) []))
+      go true = answer_told walked changed text
+      go false = ap (λ k. Err (OutputTooShort k)) (counted_short (length text) h)
+
+zeros_all : (n : ℕ) → ◌≡◌ {A = List ℕ} (replicate n 0) (replicate (n - 0) 0)
+zeros_all n = let e : n ≡ n - 0 = omega arith in ap (λ k. replicate k 0) e
+
+-- the area after a text that is told
+area_fits : (n : ℕ) (text : List ℕ) (x : Told InterpolateError) → fronted n text ≡ area_of n x → closed n (length text) text ≡ area_of n (fitting n OutputTooShort text x)
+area_fits n text x e = go (leb (length text) n)
   where
-    go : (b : Bool) → Ok len ≡ cond b (Ok (length text)) (Err (counted (length text))) → f len ≡ cond b (f (length text)) (Err (OutputTooShort (counted (length text))))
-    go true e = let z : len ≡ length text = cc in ap f z
-    go false e = let z : ◌≡◌ {A = ℕ} 0 1 = cc in absurd (omega arith)
+    go : (b : Bool) → cond b (fronted n text) (replicate n 0) ≡ area_of n (cond b x (refused (OutputTooShort (length text)) []))
+    go true = e
+    go false = zeros_all n
+
+-- nothing always fits
+none_fits : (n : ℕ) (x : Told InterpolateError) → fitting n OutputTooShort [] x ≡ x
+none_fits n x = cond-true _ _ _ (le-leb 0 n (omega arith))
 
 -- the end of a walk, by its outcome
 pub record EndOf (v : List ℕ → List ℕ) (lent : MutBor (List ℕ)) (whole : Outcome) (w : WorkBudget) (walked : Result (Unit {0}) PropertyError) (changed : Bool) (out : Output) : Type 0 where
-  pub holds : Holds out lent (text_left v whole)
-  pub answers : (fit : Result ℕ ℕ) → fit ≡ fitted (length lent.now) (length (text_left v whole)) → answer_fit walked changed fit ≡ fitting (length lent.now) (text_left v whole) (answer_left whole (length (text_left v whole)))
+  pub text : List ℕ
+  pub holds : Holds out lent text
+  pub answers : (fit : Result ℕ ℕ) → fit ≡ fitted (length lent.now) (length text) → answer_fit walked changed fit ≡ answer_of (told_by v (length lent.now) whole)
+  pub area : closed (length lent.now) (length text) text ≡ area_of (length lent.now) (told_by v (length lent.now) whole)
   pub total : w.total ≡ total_left whole
-
-fits_by : (walked : Result (Unit {0}) PropertyError) (changed : Bool) (n : ℕ) (text : List ℕ) (fit : Result ℕ ℕ) → fit ≡ fitted n (length text) → answer_fit walked changed fit ≡ fitting n text (answer_by walked changed (length text))
-fits_by walked changed n text (Ok len) e = fitting_short n len text (answer_by walked changed) e
-fits_by walked changed n text (Err needed) e = fitting_long n needed text (answer_by walked changed (length text)) e
 
 module _ (lent : MutBor (List ℕ)) (out out' : Output) where
   told_kept : (e : PropertyError) (told old : List ℕ) → Tells out lent e told → Holds out lent old → Settles (has_message e) out out' → Holds out' lent told
@@ -60,28 +90,96 @@ module _ (lent : MutBor (List ℕ)) (out out' : Output) where
   told_kept (E.ExpansionDepthLimitExceeded depth limit) told old t h s = subst (Holds out' lent) (sym t) (s lent old h)
   told_kept (E.ExpansionWorkLimitExceeded work limit) told old t h s = subst (Holds out' lent) (sym t) (s lent old h)
 
+-- the text of a walk that ended is not too long to be counted
+abbrev pub Countable : (List ℕ → List ℕ) → Outcome → Type 0
+Countable v (ended t changed ps) = length (spelled v ps) < 2 ^ 64
+Countable v (stopped t e told) = Unit {0}
+
+pub countable : (means : List ℕ → Option (List ℕ)) (s : PropertySyntax) (most : Limits) (t : ℕ) (text : List ℕ) → Short means → length text ≤ text_max → Countable (values means) (walk (shapes means) s most t text)
+countable means s most t text short small = go (walk (shapes means) s most t text) refl
+  where
+    go : (o : Outcome) → walk (shapes means) s most t text ≡ o → Countable (values means) o
+    go (ended u c ps) e = omega (arith, text_bounded means s most t u text c ps short e)
+    go (stopped u x told) e = tt
+
 module _ (means : List ℕ → Option (List ℕ)) (deep : ℕ) (lent : MutBor (List ℕ)) (whole : Outcome) (w : WorkBudget) (marks : Marks) (out out' : Output) where
-  pub end_of : (walked : Result (Unit {0}) PropertyError) → Goes means deep lent whole 0 [] (state w marks out) walked → Settles (has_text walked marks.changed) out out' → EndOf (values means) lent whole w walked marks.changed out'
-  unfolding run
-  end_of (Ok x) r s =
-      subst (λ o. EndOf (values means) lent o w (Ok x) marks.changed out') r.goes (record {
-        holds = s lent (spelled (values means) r.pieces) r.holds;
-        answers = λ fit e. fits_by (Ok x) marks.changed (length lent.now) _ fit e;
+  ended_as : (b : Bool) (ps : List Piece) → Countable (values means) (ended w.total b ps) → Holds out lent (spelled (values means) ps) → Settles b out out' → EndOf (values means) lent (ended w.total b ps) w (Ok tt) b out'
+  ended_as true ps short h s =
+      record {
+        text = spelled (values means) ps;
+        holds = s lent _ h;
+        answers = λ fit e. answer_fits (length lent.now) _ short (Ok tt) true fit e;
+        area = area_fits (length lent.now) _ (replaced _) refl;
         total = refl;
-      })
-  end_of (Err x) r s =
+      }
+  ended_as false ps short h s =
+      record {
+        text = [];
+        holds = s lent _ h;
+        answers = λ fit e. answer_fits (length lent.now) [] (omega arith) (Ok tt) false fit e ∙ ap answer_of (none_fits (length lent.now) unchanged);
+        area = area_fits (length lent.now) [] unchanged (sym (zeros_all (length lent.now))) ∙ ap (area_of (length lent.now)) (none_fits (length lent.now) unchanged);
+        total = refl;
+      }
+
+  pub end_of : (walked : Result (Unit {0}) PropertyError) → Countable (values means) whole → Goes means deep lent whole 0 [] (state w marks out) walked → Settles (has_text walked marks.changed) out out' → EndOf (values means) lent whole w walked marks.changed out'
+  unfolding run
+  end_of (Ok x) short r s =
+      subst (λ o. EndOf (values means) lent o w (Ok x) marks.changed out') r.goes (ended_as marks.changed r.pieces (subst (Countable (values means)) (sym r.goes) short) r.holds s)
+  end_of (Err x) short r s =
       subst (λ o. EndOf (values means) lent o w (Err x) marks.changed out') (sym r.is) (record {
+        text = r.told;
         holds = told_kept lent out out' x r.told r.old r.tells r.holds s;
-        answers = λ fit e. fits_by (Err x) marks.changed (length lent.now) r.told fit e;
+        answers = λ fit e. answer_fits (length lent.now) r.told r.short (Err x) marks.changed fit e;
+        area = area_fits (length lent.now) r.told (refused (Refused x) r.told) refl;
         total = refl;
       })
 
 -- a text that is not refused at once
-pub passed : {X : Type 0} (n slots : ℕ) (long few x : X) → n ≤ 8192 → frames_needed n ≤ slots → x ≡ unless_refused n slots long few x
-passed n slots long few x h k = sym (cond-false _ _ _ (le-ltb 8192 n h) ∙ cond-false _ _ _ (le-ltb slots (frames_needed n) k))
+module _ (n slots : ℕ) (small : n ≤ text_max) (enough : frames_needed n ≤ slots) where
+  passed : {X : Type 0} (long few x : X) → x ≡ unless_refused n slots long few x
+  passed long few x = sym (cond-false _ _ _ (le-ltb text_max n small) ∙ cond-false _ _ _ (le-ltb slots (frames_needed n) enough))
+
+  pub passed_told : (v : List ℕ → List ℕ) (room : ℕ) (whole : Outcome) → told_by v room whole ≡ call_told v n slots room whole
+  passed_told v room whole = passed _ _ _
+
+  pub passed_total : (t : ℕ) (whole : Outcome) → total_left whole ≡ call_total n slots t whole
+  passed_total t whole = passed _ _ _
 
 -- where a walk begins
-pub start : (means : List ℕ → Option (List ℕ)) (deep : ℕ) (s : PropertySyntax) (lent : MutBor (List ℕ)) (text : List ℕ) (w : WorkBudget) (out : Output) → length text ≤ 8192 → Holds out lent []
+pub start : (means : List ℕ → Option (List ℕ)) (deep : ℕ) (s : PropertySyntax) (lent : MutBor (List ℕ)) (text : List ℕ) (w : WorkBudget) (out : Output) → length text ≤ text_max → Holds out lent []
     → Reached means deep lent (walk (shapes means) s (limits deep w.limit) w.total text) (length text) (events (shapes means) s text) (state w (record { changed = false; shows = false }) out)
 unfolding walk
 start means deep s lent text w out l h = record { pieces = []; goes = refl; marked = refl; holds = h; few = omega arith }
+
+-- the outcome for a text without `$`, by whether its charge was taken
+abbrev plain_by : List ℕ → ℕ → Work → Outcome
+plain_by text limit (taken t) = ended t false (literal text)
+plain_by text limit (over t) = stopped t (E.ExpansionWorkLimitExceeded t limit) []
+
+module _ (means : List ℕ → Option (List ℕ)) (s : PropertySyntax) (deep : ℕ) (w : WorkBudget) (text : List ℕ) where
+  plain_ends : (r : Work) → after (shapes means) (limits deep w.limit) false [] (emits (literal text) []) r ≡ plain_by text w.limit r
+  unfolding run
+  plain_ends (taken t) = run_emits (shapes means) (limits deep w.limit) (literal text) t false [] []
+  plain_ends (over t) = refl
+
+  plain_outcome : None ≡ first_dollar 0 text → walk_of means s deep w text ≡ plain_by text w.limit (works w (length text ∷ []))
+  unfolding walk
+  plain_outcome e =
+      ap (run (shapes means) (limits deep w.limit) w.total false []) (begins_plain (shapes means) s text e)
+      ∙ run_charges (shapes means) (limits deep w.limit) (length text ∷ []) w.total false [] (emits (literal text) [])
+      ∙ plain_ends (works w (length text ∷ []))
+
+  -- what is told of it
+  pub record Kept (room : ℕ) (r : Work) (whole : Outcome) : Type 0 where
+    pub answer : answer_kept (ending r w.limit tt) ≡ answer_of (told_by (values means) room whole)
+    pub area : replicate room 0 ≡ area_of room (told_by (values means) room whole)
+    pub total : total_of r ≡ total_left whole
+
+  kept_by : (room : ℕ) (r : Work) → Kept room r (plain_by text w.limit r)
+  kept_by room (taken t) = record { answer = refl; area = refl; total = refl }
+  kept_by room (over t) =
+      let x : Told InterpolateError = refused (Refused (E.ExpansionWorkLimitExceeded t w.limit)) [] in
+      record { answer = sym (ap answer_of (none_fits room x)); area = zeros_all room ∙ sym (ap (area_of room) (none_fits room x)); total = refl }
+
+  pub kept_plain : (room : ℕ) → None ≡ first_dollar 0 text → Kept room (works w (length text ∷ [])) (walk_of means s deep w text)
+  kept_plain room e = subst (Kept room (works w (length text ∷ []))) (sym (plain_outcome e)) (kept_by room (works w (length text ∷ [])))

@@ -17,8 +17,8 @@ use Rattle.items.specs.Items.{Act, keep, replace, select, require, refuse, Item,
 use Rattle.items.specs.Looks.{Ends, Looked, act_of, acted, charges_at, judged, look, looking, some_looked, step_of, with_next}
 use Rattle.output.specs.declared.Output.{Output}
 use Rattle.walk.specs.declared.marks.Marks.{Marks}
-use Rattle.walk.specs.Events.{Event, acts, charges, frame}
-use Rattle.walk.specs.Walks.{Outcome, run}
+use Rattle.expansion.specs.Events.{Event, acts, charges, frame}
+use Rattle.expansion.specs.Walks.{Outcome, run}
 use Rattle.walk.specs.Frames.{Proper, Reached, Selectable, Stopped, Tells, room_of, state, text_of}
 use Rattle.walk.proofs.ActLaws.{Fine, Plain, Tail, item_fine}
 use Rattle.walk.proofs.Reaching.{reach_charges, reach_same, stop_charges}
@@ -144,7 +144,7 @@ module _ {means : List ℕ → Option (List ℕ)} {deep : ℕ} {lent : MutBor (L
       let fine : Plain x = subst (Fine (b ∷ bs) (item (shapes means) s i b bs).more) g (item_fine (shapes means) s i b bs) in
       let on = reach_charges _ _ t (spends ∙ ap (λ l. spent w (charges_at (shapes means) s i l)) at) h (reach_same (frame_item nested d s (shapes means) i b bs xs es at) r) in
       let end = reach_same (ap (λ a. acts nested d s a (frame nested d s (shapes means) (i + 1 + (item (shapes means) s i b bs).more) (drop (i + 1 + (item (shapes means) s i b bs).more) xs) 0 es)) g) on in
-      subst (Stopped lent whole (state w' marks' out)) (sym is) (record { told = []; is = sym end.goes; tells = tells_plain out lent x fine; old = spelled (values means) end.pieces; holds = end.holds })
+      subst (Stopped lent whole (state w' marks' out)) (sym is) (record { told = []; is = sym end.goes; short = omega arith; tells = tells_plain out lent x fine; old = spelled (values means) end.pieces; holds = end.holds })
   stop_by e b bs at (taken t) h (keep x) g q = let z : ◌≡◌ {A = ℕ} 0 1 = cc in absurd (omega arith)
   stop_by e b bs at (taken t) h (replace x) g q = let z : ◌≡◌ {A = ℕ} 0 1 = cc in absurd (omega arith)
   stop_by e b bs at (taken t) h (select x y) g q = let z : ◌≡◌ {A = ℕ} 0 1 = cc in absurd (omega arith)

@@ -12,12 +12,13 @@ use Rattle.references.specs.declared.error.PropertyError.TheVariants.{ExpansionD
 use Rattle.items.specs.Pieces.{Piece, val, literal, literals, shows, spelled}
 use Rattle.output.specs.declared.Output.{Output}
 use Rattle.output.specs.Outputs.{Grows, Holds}
+use Rattle.expansion.proofs.EndLaws.{run_emits}
 use Rattle.walk.specs.declared.marks.Marks.{Marks}
-use Rattle.walk.specs.Events.{Event, begins, charge, charges, emit, emits, message, nest, replaced}
-use Rattle.walk.specs.Walks.{Limits, Outcome, missing, run, shown, stopped}
+use Rattle.expansion.specs.Events.{Event, begins, charge, charges, emit, emits, message, nest, replaced}
+use Rattle.expansion.specs.Walks.{Limits, Outcome, missing, run, shown, stopped}
 use Rattle.walk.specs.Frames.{Message, Reached, State, Stopped, Tells, marked_replaced, marked_shows, state}
 use Rattle.walk.proofs.Choosing.{len_of_value, shows_by_len}
-use Rattle.walk.proofs.Runs.{after, literals_append, literals_literal, shows_literal, spelled_literal, run_charges, run_emits, shows_append, spelled_append, spelled_unshown}
+use Rattle.walk.proofs.Runs.{after, literals_append, literals_literal, shows_literal, spelled_literal, run_charges, shows_append, spelled_append, spelled_unshown}
 
 pub or_none : (b : Bool) → b || false ≡ b
 or_none true = refl
@@ -61,6 +62,7 @@ module _ {means : List ℕ → Option (List ℕ)} {deep : ℕ} {lent : MutBor (L
           told = [];
           is = sym r.goes ∙ run_charges (shapes means) most ks w.total marks.changed r.pieces es ∙ ap (after (shapes means) most marks.changed r.pieces es) h
               ∙ ap (λ n. stopped n (ExpansionWorkLimitExceeded t w.limit) []) (sym (ap (λ (v : WorkBudget). v.total) e ∙ ap total_of h));
+          short = omega arith;
           tells = refl;
           old = spelled (values means) r.pieces;
           holds = r.holds;
@@ -138,7 +140,7 @@ module _ {means : List ℕ → Option (List ℕ)} {deep : ℕ} {lent : MutBor (L
 
     pub stop_nest : {marks' : Marks} (d : ℕ) → deep < d → Reached means deep lent whole left (nest d ∷ es) (state w marks out) → Stopped lent whole (state w marks' out) (ExpansionDepthLimitExceeded d deep)
     unfolding run
-    stop_nest d h r = record { told = []; is = sym r.goes ∙ cond-true _ _ _ (lt-ltb deep d h); tells = refl; old = spelled (values means) r.pieces; holds = r.holds }
+    stop_nest d h r = record { told = []; is = sym r.goes ∙ cond-true _ _ _ (lt-ltb deep d h); short = omega arith; tells = refl; old = spelled (values means) r.pieces; holds = r.holds }
 
     -- the text as it stands is the message where a value shows; else what was put out
     pub message_source : {out' : Output} (text : List ℕ) (n : ℕ) → length text < 2 ^ 64 → marks.shows ≡ true → n ≡ out'.len
@@ -146,13 +148,13 @@ module _ {means : List ℕ → Option (List ℕ)} {deep : ℕ} {lent : MutBor (L
     message_source text n few s e r lays =
         let is : shown (shapes means) text r.pieces ≡ text = cond-true _ _ _ (sym r.marked ∙ s) in
         let h = lays _ r.holds in
-        record { holds = subst (Holds _ lent) (sym is) h; len = omega (arith, h.len, ap length is) }
+        record { holds = subst (Holds _ lent) (sym is) h; len = omega (arith, h.len, ap length is); short = omega (arith, h.len) }
 
     pub message_pieces : (text : List ℕ) (n : ℕ) → marks.shows ≡ false → n ≡ out.len → (r : Reached means deep lent whole left es (state w marks out)) → Message means deep lent text out n r.pieces
     message_pieces text n s e r =
         let plain : shows (shapes means) r.pieces ≡ false = sym r.marked ∙ s in
         let is : spelled (values means) r.pieces ≡ shown (shapes means) text r.pieces = spelled_unshown means r.pieces plain ∙ sym (cond-false _ _ _ plain) in
-        record { holds = subst (Holds out lent) is r.holds; len = omega (arith, r.holds.len, r.few, ap length is, ap length (spelled_unshown means r.pieces plain)) }
+        record { holds = subst (Holds out lent) is r.holds; len = omega (arith, r.holds.len, r.few, ap length is, ap length (spelled_unshown means r.pieces plain)); short = omega (arith, r.holds.len, r.few, ap length (spelled_unshown means r.pieces plain)) }
 
   -- a message ends
   pub stop_message : {w : WorkBudget} {marks marks' : Marks} {out out' : Output} {left : ℕ} (kind : Shape) (name : Span) (text : List ℕ) (n : ℕ)
@@ -163,6 +165,7 @@ module _ {means : List ℕ → Option (List ℕ)} {deep : ℕ} {lent : MutBor (L
       record {
         told = shown (shapes means) text r.pieces;
         is = sym r.goes ∙ ap (λ k. stopped w.total (missing kind name k) (shown (shapes means) text r.pieces)) (sym m.len);
+        short = omega (arith, m.len, m.short);
         tells = tells_missing lent out' kind name n _ m.holds;
         old = shown (shapes means) text r.pieces;
         holds = m.holds;

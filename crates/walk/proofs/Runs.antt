@@ -1,13 +1,13 @@
 -- How `run` goes on over events, and what pieces amount to.
-use Rattle.std.proofs.Common.{◌≡◌, ℕ, ◌+◌, Bool, true, false, cond, ◌||◌, ltb, List, [], ◌∷◌, ◌++◌, length, Some, None, Option, sym, refl, ap, ◌∙◌, append_assoc, append-nil, arith}
+use Rattle.std.proofs.Common.{◌≡◌, ℕ, ◌+◌, Bool, true, false, cond, ◌||◌, ltb, List, [], ◌∷◌, ◌++◌, length, Some, None, Option, sym, refl, ap, ◌∙◌, append_assoc, arith}
 use Rattle.budget.specs.Charges.{Work, taken, over, charged}
 use Rattle.budget.specs.Charges as Budget
 use Rattle.source.specs.Shapes.{Shape}
 use Rattle.source.specs.Shapes.{bytes_of, shape, shapes, values}
 use Rattle.references.specs.declared.error.PropertyError.TheVariants.{ExpansionWorkLimitExceeded}
 use Rattle.items.specs.Pieces.{Piece, lit, val, spelled, literal, literals, is_filled, shows}
-use Rattle.walk.specs.Events.{Event, charges, emits}
-use Rattle.walk.specs.Walks.{Limits, Outcome, stopped, run}
+use Rattle.expansion.specs.Events.{Event, charges}
+use Rattle.expansion.specs.Walks.{Limits, Outcome, stopped, run}
 
 module _ (sh : List ℕ → Shape) (most : Limits) where
   -- charges, and what comes once they are taken
@@ -24,11 +24,6 @@ module _ (sh : List ℕ → Shape) (most : Limits) where
   unfolding run
   run_charges [] t c ps es = refl
   run_charges (k ∷ ks) t c ps es = tested (ltb most.work (charged t k)) c ps es (charged t k) _ _ (run_charges ks (charged t k) c ps es)
-
-  pub run_emits : (qs : List Piece) (t : ℕ) (c : Bool) (ps : List Piece) (es : List Event) → run sh most t c ps (emits qs es) ≡ run sh most t c (ps ++ qs) es
-  unfolding run
-  run_emits [] t c ps es = ap (λ l. run sh most t c l es) (sym (append-nil ps))
-  run_emits (q ∷ qs) t c ps es = run_emits qs t c (ps ++ q ∷ []) es ∙ ap (λ l. run sh most t c l es) (append_assoc ps (q ∷ []) qs)
 
 -- pieces behind others
 pub spelled_append : (v : List ℕ → List ℕ) (ps qs : List Piece) → spelled v (ps ++ qs) ≡ spelled v ps ++ spelled v qs

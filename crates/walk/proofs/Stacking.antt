@@ -3,12 +3,12 @@ use Rattle.std.proofs.Common.{◌≡◌, ℕ, suc, ◌+◌, ◌-◌, ◌<◌, co
 use Rattle.std.proofs.lemmas.Bool.{lt-ltb}
 use Rattle.std.specs.List.{slice_get}
 use Rattle.stack.specs.declared.Stack.{Stack}
-use Rattle.stack.specs.Held.{held, loan, memory, offered}
+use Rattle.stack.specs.Held.{held, memory, offered}
 use Rattle.references.specs.declared.error.PropertyError.{PropertyError}
 use Rattle.source.specs.Shapes.{Shape, shapes}
 use Rattle.walk.specs.declared.frame.ExpansionFrame.{ExpansionFrame}
-use Rattle.walk.specs.Events.{Event}
-use Rattle.walk.specs.Walks.{Outcome}
+use Rattle.expansion.specs.Events.{Event}
+use Rattle.expansion.specs.Walks.{Outcome}
 use Rattle.walk.specs.Frames.{Nests, Reached, State, completed, frame_events, moved, part, rest}
 use Rattle.walk.specs.Stacks.{Fit, Runs, Sound, Sound1, Turned, Turns, events_at, left, pending}
 use Rattle.walk.proofs.Reaching.{reach_less, reach_same}
@@ -137,7 +137,6 @@ pub record Walked (means : List ℕ → Option (List ℕ)) (deep : ℕ) (text : 
   pub goes : Runs means deep text (held frames) before (held frames') after (Ok tt)
   pub limit : after.work.limit ≡ before.work.limit
   pub memory : length (memory frames') ≡ length (memory frames)
-  pub loan : loan frames' ≡ loan frames
 
 last_there : {T : Type 0} (x : T) (xs : List T) → slice_get (x ∷ xs) (length xs) ≡ None → ⊥
 last_there x [] e = let z : ◌≡◌ {A = ℕ} 0 1 = cc in omega arith

@@ -14,8 +14,8 @@ use Rattle.items.specs.Looks.{AskedLook, Ends, Stays, charges_at, look, looked_t
 use Rattle.output.specs.declared.Output.{Output}
 use Rattle.walk.specs.declared.frame.ExpansionFrame.{ExpansionFrame}
 use Rattle.walk.specs.declared.marks.Marks.{Marks}
-use Rattle.walk.specs.Events.{Event, frame, trace}
-use Rattle.walk.specs.Walks.{Outcome}
+use Rattle.expansion.specs.Events.{Event, frame, trace}
+use Rattle.expansion.specs.Walks.{Outcome}
 use Rattle.walk.specs.Frames.{Applied, Applies, Askable, Framed, Nests, Onward, OpensAt, Reached, State, Stopped, completed, completion_of, frame_events, frame_of, moved, part, rest, room_of, state, text_of}
 use Rattle.walk.proofs.Framing.{Found, Lies, found, found_lies, found_none, reach_end, reach_step, stop_look}
 use Rattle.walk.proofs.Reaching.{reach_less, reach_same}

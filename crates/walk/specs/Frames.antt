@@ -17,8 +17,8 @@ use Rattle.output.specs.declared.Output.{Output}
 use Rattle.output.specs.Outputs.{Holds}
 use Rattle.walk.specs.declared.frame.ExpansionFrame.{ExpansionFrame}
 use Rattle.walk.specs.declared.marks.Marks.{Marks}
-use Rattle.walk.specs.Events.{Event, acts, begins, emits, message, nest, replaced, trace}
-use Rattle.walk.specs.Walks.{Outcome, run, shown, stopped}
+use Rattle.expansion.specs.Events.{Event, acts, begins, emits, message, nest, replaced, trace}
+use Rattle.expansion.specs.Walks.{Outcome, run, shown, stopped}
 
 abbrev pub marked_replaced : ℕ → Marks → Marks
 marked_replaced depth marks = record { changed = marks.changed || (depth == 1); shows = marks.shows }
@@ -63,6 +63,7 @@ Tells out lent (E.ExpansionWorkLimitExceeded work limit) told = told ≡ []
 pub record Stopped (lent : MutBor (List ℕ)) (whole : Outcome) (now : State) (e : PropertyError) : Type 0 where
   pub told : List ℕ
   pub is : whole ≡ stopped now.work.total e told
+  pub short : length told < 2 ^ 64
   pub tells : Tells now.out lent e told
   -- whatever was put out before
   pub old : List ℕ
@@ -162,6 +163,7 @@ module _ (means : List ℕ → Option (List ℕ)) (deep : ℕ) where
   pub record Message (lent : MutBor (List ℕ)) (w : List ℕ) (out : Output) (n : ℕ) (pieces : List Piece) : Type 0 where
     pub holds : Holds out lent (shown (shapes means) w pieces)
     pub len : n ≡ length (shown (shapes means) w pieces)
+    pub short : n < 2 ^ 64
 
   abbrev pub TellsMessage : List ℕ → State → Output → ℕ → Type 0
   TellsMessage w before out n =

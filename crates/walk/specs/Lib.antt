@@ -1,6 +1,4 @@
-pub mod Events
 pub mod Frames
-pub mod Outcomes
 pub mod Stacks
-pub mod Trials
-pub mod Walks
+pub mod Endings
+pub mod Outcomes

@@ -5,8 +5,8 @@ use Rattle.names.specs.declared.PropertySyntax.{PropertySyntax}
 use Rattle.source.specs.Shapes.{Shape, shapes}
 use Rattle.references.specs.declared.error.PropertyError.{PropertyError}
 use Rattle.walk.specs.declared.frame.ExpansionFrame.{ExpansionFrame}
-use Rattle.walk.specs.Events.{Event, events}
-use Rattle.walk.specs.Walks.{Outcome}
+use Rattle.expansion.specs.Events.{Event, events}
+use Rattle.expansion.specs.Walks.{Outcome}
 use Rattle.walk.specs.Frames.{Goes, Reached, State, completed, frame_events, part, rest}
 
 -- the frame with i others below it lies in the text of n bytes, and what is left of it is shorter by five for each of those

@@ -1,9 +1,9 @@
-ghost use Rattle.std.specs.Prelude.{◌≡◌, ℕ, ◌+◌, ◌-◌, ◌≤◌, true, false, List, length, Option};
+ghost use Rattle.std.specs.Prelude.{◌≡◌, ℕ, ◌+◌, ◌-◌, ◌≤◌, false, List, length, Option};
 ghost use Rattle.budget.specs.declared.WorkBudget.{WorkBudget};
 ghost use Rattle.names.specs.declared.PropertySyntax.{PropertySyntax};
 ghost use Rattle.items.specs.Items.{inner};
 ghost use Rattle.items.specs.Looks.{chosen};
-ghost use Rattle.walk.specs.Events.{Event, acts};
+ghost use Rattle.expansion.specs.Events.{Event, acts};
 ghost use Rattle.walk.specs.Frames.{Applies, Askable, Ends, Opens, OpensBy, Passes, Proper, Selects, TellsMessage, begun_by, completed, open_events, part, put_events, state};
 
 use crate::frame::ExpansionFrame;

@@ -10,3 +10,14 @@ pub struct ExpansionFrame {
     pub syntax: PropertySyntax,
     pub completion: FrameCompletion,
 }
+
+impl ExpansionFrame {
+    // A frame to fill lent memory with: `[ExpansionFrame::EMPTY; 8]`.
+    pub const EMPTY: ExpansionFrame = ExpansionFrame {
+        start: 0,
+        cursor: 0,
+        end: 0,
+        syntax: PropertySyntax::Braced,
+        completion: FrameCompletion::Root,
+    };
+}

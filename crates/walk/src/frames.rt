@@ -1,13 +1,16 @@
-ghost use Rattle.std.specs.Prelude.{◌≡◌, [], ◌∷◌, ◌++◌, length};
-ghost use Rattle.stack.specs.Held.{held, loan, memory};
+ghost use Rattle.std.specs.Prelude.{◌≡◌, ◌/◌, ◌<◌, [], ◌∷◌, ◌++◌, length, Some};
+ghost use Rattle.stack.specs.Held.{held, memory};
+ghost use Rattle.expansion.specs.Events.{first_dollar};
 ghost use Rattle.walk.specs.Frames.{state};
-ghost use Rattle.walk.specs.Stacks.{Fit, Runs, Turns};
+ghost use Rattle.walk.specs.Stacks.{Fit, Runs, Turns, Walks};
 
 use crate::apply::finish_frame;
 use crate::frame::ExpansionFrame;
 use crate::marks::Marks;
 use crate::step::walk_frame;
 use budget::WorkBudget;
+use items::action::FrameCompletion;
+use names::PropertySyntax;
 use output::Output;
 use references::error::PropertyError;
 use source::source::PropertySource;
@@ -29,7 +32,6 @@ fn walk_newest<S: PropertySource>(
     ensures goes { Runs (S.PropertySource.means source.now) max_depth text.now (held frames.old ++ frame ∷ []) (state work.old marks.old out.old) (held frames.new) (state work.new marks.new out.new) result }
     ensures limit { work.new.limit ≡ work.old.limit }
     ensures memory { length (memory frames.new) ≡ length (memory frames.old) }
-    ensures loan { loan frames.new ≡ loan frames.old }
 {
     let depth = frames.len() + 1;
     let Some(nested) = walk_frame(source, text, &mut frame, depth, max_depth, out, marks, work)?
@@ -42,7 +44,7 @@ fn walk_newest<S: PropertySource>(
 }
 
 // Walks the open frames, the newest first, until none is left.
-pub(crate) fn walk_frames<S: PropertySource>(
+fn walk_frames<S: PropertySource>(
     source: &S,
     text: &[u8],
     frames: &mut Stack<'_, ExpansionFrame>,
@@ -55,10 +57,40 @@ pub(crate) fn walk_frames<S: PropertySource>(
     ensures goes { Runs (S.PropertySource.means source.now) max_depth text.now (held frames.old) (state work.old marks.old out.old) [] (state work.new marks.new out.new) result }
     ensures limit { work.new.limit ≡ work.old.limit }
     ensures memory { length (memory frames.new) ≡ length (memory frames.old) }
-    ensures loan { loan frames.new ≡ loan frames.old }
 {
     while let Some(frame) = frames.pop() {
         walk_newest(source, text, frame, frames, max_depth, out, marks, work)?;
     }
     Ok(())
+}
+
+// Walks a whole text, with no frame open. Its first `$` is at `first`.
+pub(crate) fn walk_text<S: PropertySource>(
+    source: &S,
+    text: &[u8],
+    first: usize,
+    syntax: PropertySyntax,
+    frames: &mut Stack<'_, ExpansionFrame>,
+    max_depth: usize,
+    out: &mut Output<'_>,
+    marks: &mut Marks,
+    work: &mut WorkBudget,
+) -> Result<(), PropertyError>
+    requires none { held frames.old ≡ [] }
+    requires enough { length text.now / 5 < length (memory frames.old) }
+    requires place { Some first ≡ first_dollar 0 text.now }
+    requires within { first < length text.now }
+    ensures goes { Walks (S.PropertySource.means source.now) max_depth syntax text.now (state work.old marks.old out.old) (state work.new marks.new out.new) result }
+    ensures limit { work.new.limit ≡ work.old.limit }
+{
+    work.charge(first + 1)?;
+    let root = ExpansionFrame {
+        start: 0,
+        cursor: 0,
+        end: text.len(),
+        syntax,
+        completion: FrameCompletion::Root,
+    };
+    let _ = frames.push(root);
+    walk_frames(source, text, frames, max_depth, out, marks, work)
 }

@@ -1,24 +1,26 @@
-ghost use Rattle.std.specs.Prelude.{◌≡◌, length};
-ghost use Rattle.source.specs.Shapes.{shapes, values};
-ghost use Rattle.walk.specs.Walks.{walk};
-ghost use Rattle.walk.specs.Outcomes.{Settles, answer_fit, call_answer, call_area, call_total, has_text, limits};
+ghost use Rattle.std.specs.Prelude.{◌≡◌, ◌<◌, ◌≤◌, [], ◌∷◌, length, replicate, Some};
+ghost use Rattle.text.specs.Texts.{text_max};
+ghost use Rattle.budget.specs.Charges.{paid, spent};
+ghost use Rattle.source.specs.Shapes.{values};
+ghost use Rattle.answers.specs.Told.{answer_of, area_of};
+ghost use Rattle.expansion.specs.Events.{first_dollar};
+ghost use Rattle.expansion.specs.Trials.{Trials};
+ghost use Rattle.expansion.specs.WalkLaws.{WalkLaws};
+ghost use Rattle.walk.specs.Endings.{Settles, answer_fit, answer_kept, has_text};
+ghost use Rattle.walk.specs.Outcomes.{call_told, call_total, frames_needed, told_by, total_left, walk_of};
 
 use crate::frame::ExpansionFrame;
+use crate::frames::walk_text;
 use crate::marks::Marks;
-use crate::text::walk_text;
+use answers::Answer;
 use budget::WorkBudget;
 use names::PropertySyntax;
 use output::Output;
 use references::error::PropertyError;
+use selected::dollar::find_dollar;
 use source::source::PropertySource;
 use stack::Stack;
-
-// What became of a text: it is as it was, or the output area has the new one, of this length.
-#[derive(Clone, Copy, PartialEq, Eq, Debug)]
-pub enum Interpolated {
-    Unchanged,
-    Replaced(usize),
-}
+use text::TEXT_MAX;
 
 // Why there is no answer.
 #[derive(Clone, Copy, PartialEq, Eq, Debug)]
@@ -58,7 +60,7 @@ fn answer(
     walked: Result<(), PropertyError>,
     changed: bool,
     fit: Result<usize, usize>,
-) -> Result<Interpolated, InterpolateError>
+) -> Result<Answer, InterpolateError>
     ensures { result ≡ answer_fit walked changed fit }
 {
     match (fit, walked) {
@@ -66,12 +68,66 @@ fn answer(
         (Ok(_), Err(error)) => Err(InterpolateError::Refused(error)),
         (Ok(len), Ok(())) => {
             if changed {
-                Ok(Interpolated::Replaced(len))
+                Ok(Answer::Replaced(len))
             } else {
-                Ok(Interpolated::Unchanged)
+                Ok(Answer::Unchanged)
             }
         }
     }
+}
+
+// Walks a text whose first `$` is at `first`.
+fn expand_text<S: PropertySource>(
+    text: &[u8],
+    first: usize,
+    source: &S,
+    syntax: PropertySyntax,
+    max_depth: usize,
+    work: &mut WorkBudget,
+    frames: &mut [ExpansionFrame],
+    area: &mut [u8],
+) -> Result<Answer, InterpolateError>
+    requires small { length text.now ≤ text_max }
+    requires enough { frames_needed (length text.now) ≤ length frames.old }
+    requires place { Some first ≡ first_dollar 0 text.now }
+    requires within { first < length text.now }
+    ensures answer { result ≡ answer_of (told_by (values (S.PropertySource.means source.now)) (length area.old) (walk_of (S.PropertySource.means source.now) syntax max_depth work.old text.now)) }
+    ensures area { area.new ≡ area_of (length area.old) (told_by (values (S.PropertySource.means source.now)) (length area.old) (walk_of (S.PropertySource.means source.now) syntax max_depth work.old text.now)) }
+    ensures total { work.new.total ≡ total_left (walk_of (S.PropertySource.means source.now) syntax max_depth work.old text.now) }
+    ensures limit { work.new.limit ≡ work.old.limit }
+{
+    let mut stack = Stack::new(frames);
+    let mut out = Output::new(area);
+    let mut marks = Marks {
+        changed: false,
+        shows: false,
+    };
+    let walked = walk_text(
+        source, text, first, syntax, &mut stack, max_depth, &mut out, &mut marks, work,
+    );
+    settle(walked, marks.changed, &mut out);
+    let fit = out.finish();
+    answer(walked, marks.changed, fit)
+}
+
+// A text without `$`, of `len` bytes, is charged at once and stays as it is.
+fn keep_text(len: usize, work: &mut WorkBudget, area: &mut [u8]) -> Result<Answer, InterpolateError>
+    ensures answer { result ≡ answer_kept (paid work.old (len ∷ []) tt) }
+    ensures work { work.new ≡ spent work.old (len ∷ []) }
+    ensures area { area.new ≡ replicate (length area.old) 0 }
+{
+    area.fill(0);
+    match work.charge(len) {
+        Ok(()) => Ok(Answer::Unchanged),
+        Err(fault) => Err(InterpolateError::Refused(PropertyError::from(fault))),
+    }
+}
+
+// How many frames a text of n bytes needs.
+pub fn frames_needed(n: usize) -> usize
+    ensures { result ≡ frames_needed n }
+{
+    n / 5 + 1
 }
 
 // Replaces the references in a text by what the source and the syntax say.
@@ -83,38 +139,34 @@ pub fn interpolate_compose_style_with_limits<S: PropertySource>(
     work: &mut WorkBudget,
     frames: &mut [ExpansionFrame],
     area: &mut [u8],
-) -> Result<Interpolated, InterpolateError>
-    ensures answer { result ≡ call_answer (values (S.PropertySource.means source.now)) (length text.now) (length frames.old) (length area.old) (walk (shapes (S.PropertySource.means source.now)) syntax (limits max_nested_expansions work.old.limit) work.old.total text.now) }
-    ensures area { area.new ≡ call_area (values (S.PropertySource.means source.now)) (length text.now) (length frames.old) (length area.old) (walk (shapes (S.PropertySource.means source.now)) syntax (limits max_nested_expansions work.old.limit) work.old.total text.now) }
-    ensures total { work.new.total ≡ call_total (values (S.PropertySource.means source.now)) (length text.now) (length frames.old) work.old.total (walk (shapes (S.PropertySource.means source.now)) syntax (limits max_nested_expansions work.old.limit) work.old.total text.now) }
+) -> Result<Answer, InterpolateError>
+    ensures answer { result ≡ answer_of (call_told (values (S.PropertySource.means source.now)) (length text.now) (length frames.old) (length area.old) (walk_of (S.PropertySource.means source.now) syntax max_nested_expansions work.old text.now)) }
+    ensures area { area.new ≡ area_of (length area.old) (call_told (values (S.PropertySource.means source.now)) (length text.now) (length frames.old) (length area.old) (walk_of (S.PropertySource.means source.now) syntax max_nested_expansions work.old text.now)) }
+    ensures total { work.new.total ≡ call_total (length text.now) (length frames.old) work.old.total (walk_of (S.PropertySource.means source.now) syntax max_nested_expansions work.old text.now) }
     ensures limit { work.new.limit ≡ work.old.limit }
+    ensures laws { WalkLaws }
+    ensures trials { Trials }
 {
-    if text.len() > 8192 {
+    if text.len() > TEXT_MAX {
         area.fill(0);
         return Err(InterpolateError::TextTooLong);
     }
-    let needed = text.len() / 5 + 1;
+    let needed = frames_needed(text.len());
     if frames.len() < needed {
         area.fill(0);
         return Err(InterpolateError::TooFewFrames(needed));
     }
-    let mut stack = Stack::new(frames);
-    let mut out = Output::new(area);
-    let mut marks = Marks {
-        changed: false,
-        shows: false,
+    let Some(first) = find_dollar(text) else {
+        return keep_text(text.len(), work, area);
     };
-    let walked = walk_text(
-        source,
+    expand_text(
         text,
+        first,
+        source,
         syntax,
-        &mut stack,
         max_nested_expansions,
-        &mut out,
-        &mut marks,
         work,
-    );
-    settle(walked, marks.changed, &mut out);
-    let fit = out.finish();
-    answer(walked, marks.changed, fit)
+        frames,
+        area,
+    )
 }

@@ -1,19 +1,11 @@
+use answers::Answer;
 use budget::WorkBudget;
-use items::action::FrameCompletion;
 use names::PropertySyntax;
 use references::error::{PropertyError, Span};
 use std::process::Abort;
 use tables::block::Block;
 use walk::frame::ExpansionFrame;
-use walk::interpolate::{InterpolateError, Interpolated, interpolate_compose_style_with_limits};
-
-const NONE: ExpansionFrame = ExpansionFrame {
-    start: 0,
-    cursor: 0,
-    end: 0,
-    syntax: PropertySyntax::Braced,
-    completion: FrameCompletion::Root,
-};
+use walk::interpolate::{InterpolateError, interpolate_compose_style_with_limits};
 
 // Walks a text into an area of eight bytes, and tells whether answer, area and work total are these.
 fn walks(
@@ -22,12 +14,12 @@ fn walks(
     syntax: PropertySyntax,
     depth: usize,
     limit: usize,
-    answer: Result<Interpolated, InterpolateError>,
+    answer: Result<Answer, InterpolateError>,
     area: &[u8],
     total: usize,
 ) {
     let mut out = [9u8; 8];
-    let mut frames = [NONE; 4];
+    let mut frames = [ExpansionFrame::EMPTY; 4];
     let mut work = WorkBudget { total: 0, limit };
     let source = Block::new(b"E=\0C=12\0");
     let r = interpolate_compose_style_with_limits(
@@ -54,7 +46,7 @@ fn texts(rt: HostRuntime) {
         PropertySyntax::Braced,
         most,
         most,
-        Ok(Interpolated::Unchanged),
+        Ok(Answer::Unchanged),
         zeros,
         3,
     );
@@ -64,7 +56,7 @@ fn texts(rt: HostRuntime) {
         PropertySyntax::Braced,
         most,
         most,
-        Ok(Interpolated::Replaced(3)),
+        Ok(Answer::Replaced(3)),
         b"a$b\0\0\0\0\0",
         6,
     );
@@ -74,7 +66,7 @@ fn texts(rt: HostRuntime) {
         PropertySyntax::DockerCompose,
         most,
         most,
-        Ok(Interpolated::Replaced(2)),
+        Ok(Answer::Replaced(2)),
         b"12\0\0\0\0\0\0",
         6,
     );
@@ -84,7 +76,7 @@ fn texts(rt: HostRuntime) {
         PropertySyntax::Braced,
         most,
         most,
-        Ok(Interpolated::Replaced(2)),
+        Ok(Answer::Replaced(2)),
         b"12\0\0\0\0\0\0",
         22,
     );
@@ -94,7 +86,7 @@ fn texts(rt: HostRuntime) {
         PropertySyntax::Braced,
         most,
         most,
-        Ok(Interpolated::Unchanged),
+        Ok(Answer::Unchanged),
         zeros,
         4,
     );
@@ -104,7 +96,7 @@ fn texts(rt: HostRuntime) {
         PropertySyntax::BracedOrBare,
         most,
         most,
-        Ok(Interpolated::Replaced(2)),
+        Ok(Answer::Replaced(2)),
         b"$C\0\0\0\0\0\0",
         13,
     );
@@ -114,7 +106,7 @@ fn texts(rt: HostRuntime) {
         PropertySyntax::DockerCompose,
         most,
         most,
-        Ok(Interpolated::Replaced(2)),
+        Ok(Answer::Replaced(2)),
         b"12\0\0\0\0\0\0",
         15,
     );
@@ -124,7 +116,7 @@ fn texts(rt: HostRuntime) {
         PropertySyntax::Braced,
         most,
         most,
-        Ok(Interpolated::Replaced(4)),
+        Ok(Answer::Replaced(4)),
         b"{}12\0\0\0\0",
         17,
     );

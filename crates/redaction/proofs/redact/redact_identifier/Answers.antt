@@ -1,7 +1,7 @@
 use Rattle.std.proofs.Common.{◌≡◌, ℕ, List, length, replicate, unwrap_or, sym, ap, ◌∙◌, rules}
 use Rattle.pairs.specs.Lists.{listed}
-use Rattle.redaction.specs.Answers.{answer_of, area_of}
-use Rattle.redaction.specs.Redactions.{fitting}
+use Rattle.answers.specs.Told.{answer_of, area_of}
+use Rattle.redaction.specs.Redactions.{shown}
 use Rattle.redaction.proofs.EndsLaws.{none_identified, some_identified}
 use Rattle.redaction.proofs.redact.redact_identifier.Goals as goal
 
@@ -18,7 +18,7 @@ returns-in-Some c =
     let fallback : List ℕ = c.args.fallback.now in
     let out =
     some_identified n fallback c.args.name.now (listed c.args.pairs.now) (λ e. c.if-len-eq0.false (c.len.ensures ∙ e))
-    ∙ ap (λ x. fitting n (unwrap_or x fallback)) (sym c.in-Some.ensures) in
+    ∙ ap (λ x. shown n (unwrap_or x fallback)) (sym c.in-Some.ensures) in
     record { says = c.show.ensures.says ∙ sym (ap answer_of out); area = c.show.ensures.area ∙ sym (ap (area_of n) out) }
 
 pub returns-in-None : goal.returns-in-None
@@ -27,5 +27,5 @@ returns-in-None c =
     let fallback : List ℕ = c.args.fallback.now in
     let out =
     some_identified n fallback c.args.name.now (listed c.args.pairs.now) (λ e. c.if-len-eq0.false (c.len.ensures ∙ e))
-    ∙ ap (λ x. fitting n (unwrap_or x fallback)) (sym c.in-None.ensures) in
+    ∙ ap (λ x. shown n (unwrap_or x fallback)) (sym c.in-None.ensures) in
     record { says = c.show-in-None.ensures.says ∙ sym (ap answer_of out); area = c.show-in-None.ensures.area ∙ sym (ap (area_of n) out) }

@@ -1,11 +1,10 @@
 use Rattle.std.proofs.Common.{◌≡◌, ℕ, ◌-◌, ◌≤◌, List, length, take, replicate, Ok, sym, ap, ◌∙◌, ⊎_elim, arith, rules}
 use Rattle.std.proofs.lemmas.List.{length-take-le, places}
 use Rattle.pairs.specs.Lists.{listed, scope}
-use Rattle.redaction.specs.Answers.{answer_of, area_of}
+use Rattle.answers.specs.Told.{answer_of, area_of, replaced}
 use Rattle.redaction.specs.Courses.{state_of}
-use Rattle.redaction.specs.Redactions.{ended, fitting, redacted}
-use Rattle.redaction.specs.Redactions.Outcome.{shown}
-use Rattle.redaction.specs.declared.answer.Answer.TheVariants.{Replaced}
+use Rattle.redaction.specs.Redactions.{ended, shown, redacted}
+use Rattle.answers.specs.declared.Answer.TheVariants.{Replaced}
 use Rattle.redaction.specs.declared.course.Course.TheVariants.{Fallback, Given}
 use Rattle.redaction.proofs.EndsLaws.{front_shown, none_redacted, some_redacted, to_end}
 use Rattle.redaction.proofs.redact.redact_with_pairs.Goals as goal
@@ -23,17 +22,17 @@ returns-in-Given c =
     let fallback : List ℕ = c.args.fallback.now in
     let text : List ℕ = c.args.text.now in
     let area : List ℕ = c.take_pairs.new.area in
-    let as-given : ended n fallback (state_of text area c.take_pairs.result) ≡ fitting n fallback =
+    let as-given : ended n fallback (state_of text area c.take_pairs.result) ≡ shown n fallback =
     ⊎_elim
     (λ (e : c.take_pairs.result ≡ Given). ap (λ r. ended n fallback (state_of text area r)) e)
     (λ (e : c.take_pairs.result ≡ Fallback). ap (λ r. ended n fallback (state_of text area r)) e)
     c.in-Given.is in
-    let out : redacted n fallback (scope c.args.pairs.now) text ≡ fitting n fallback =
+    let out : redacted n fallback (scope c.args.pairs.now) text ≡ shown n fallback =
     some_redacted n fallback text (listed c.args.pairs.now) (λ e. c.if-len-eq0.false (c.len.ensures ∙ e))
     ∙ ap (ended n fallback) (sym c.take_pairs.ensures.says) ∙ as-given in
     record {
-      says = c.show.ensures.says ∙ ap (λ m. answer_of (fitting m fallback)) c.take_pairs.auto.area ∙ sym (ap answer_of out);
-      area = c.show.ensures.area ∙ ap (λ m. area_of m (fitting m fallback)) c.take_pairs.auto.area ∙ sym (ap (area_of n) out);
+      says = c.show.ensures.says ∙ ap (λ m. answer_of (shown m fallback)) c.take_pairs.auto.area ∙ sym (ap answer_of out);
+      area = c.show.ensures.area ∙ ap (λ m. area_of m (shown m fallback)) c.take_pairs.auto.area ∙ sym (ap (area_of n) out);
     }
 
 pub returns-in-Made : goal.returns-in-Made
@@ -47,7 +46,7 @@ returns-in-Made c =
     let low : len ≤ n = c.in-Made.ensures.within in
     let inside : len ≤ length area = omega arith in
     let zeros : c.fill-in-Made.new.self ≡ replicate (n - len) 0 = search (rules, places) in
-    let out : redacted n fallback (scope c.args.pairs.now) text ≡ shown (take len area) =
+    let out : redacted n fallback (scope c.args.pairs.now) text ≡ replaced (take len area) =
     some_redacted n fallback text (listed c.args.pairs.now) (λ e. c.if-len-eq0.false (c.len.ensures ∙ e))
     ∙ ap (ended n fallback) (sym c.in-Made.ensures.says) in
     record {

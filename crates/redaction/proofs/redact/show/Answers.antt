@@ -1,5 +1,5 @@
 use Rattle.std.proofs.Common.{◌≡◌, ℕ, ◌-◌, ◌≤◌, List, ◌++◌, length, drop, replicate, sym, ap, ◌∙◌, arith, rules}
-use Rattle.redaction.specs.Answers.{answer_of}
+use Rattle.answers.specs.Told.{answer_of}
 use Rattle.redaction.proofs.EndsLaws.{fits, fits_area}
 use Rattle.redaction.proofs.redact.show.Goals as goal
 

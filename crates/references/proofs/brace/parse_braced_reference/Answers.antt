@@ -1,11 +1,13 @@
-use Rattle.std.proofs.Common.{◌≡◌, ◌<◌, length, take, Some, sym, refl, ap, ◌∙◌, arith}
+use Rattle.std.proofs.Common.{◌≡◌, ◌<◌, length, take, Some, None, Err, sym, refl, ap, ◌∙◌, arith}
 use Rattle.std.proofs.lemmas.List.{length-take}
 use Rattle.std.proofs.lemmas.Result.{err_from_is_err_and}
 use Rattle.budget.proofs.Calls.{broke, went}
 use Rattle.names.specs.Reads.{both, name_at, name_looks}
 use Rattle.closes.specs.Closes.{close, close_looks}
 use Rattle.references.specs.Braces.{with_op}
-use Rattle.references.proofs.BraceLaws.{close_over, inside, name_fills, name_over, named, op_fits}
+use Rattle.references.specs.Reads.{Within, brace_told}
+use Rattle.names.proofs.ReadLaws.{named as name-parts}
+use Rattle.references.proofs.BraceLaws.{close_over, inside, name_over, named, no_close, op_fits}
 use Rattle.references.proofs.brace.parse_braced_reference.Goals as goal
 
 pub returns-in_err-close : goal.returns-in_err-close
@@ -56,9 +58,9 @@ returns-in-Some-parse_op c =
     let some : Some (name, rest) ≡ name_at s (take k bs) = sym (ap both c.in-Some-2.is) ∙ m.1 in
     let o = named s bs q.0 at m.0 some (ap (with_op k name) c.in-Some-parse_op.ensures) in
     let in_body : k < length bs = inside (length bs) c.in-Some.is e.within in
-    let fills = name_fills s (take k bs) name rest some in
+    let parts = name-parts s (take k bs) (name, rest) some in
     let word = op_fits rest _ c.in-Some-parse_op.ensures in
-    record { says = o.says; work = o.work; within = (in_body, omega (arith, fills.0, length-take k bs), fills.1) }
+    record { says = o.says; work = o.work; within = (in_body, omega (arith, parts.fills, length-take k bs), parts.some) }
 
 pub returns-in-None : goal.returns-in-None
 returns-in-None c =

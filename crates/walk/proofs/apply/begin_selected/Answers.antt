@@ -1,5 +1,5 @@
 use Rattle.std.proofs.Common.{◌≡◌, ◌∷◌, refl, ap, inl, inr}
-use Rattle.walk.specs.Events.{begins, replaced}
+use Rattle.expansion.specs.Events.{begins, replaced}
 use Rattle.walk.specs.Frames.{begun_by}
 use Rattle.walk.proofs.Reaching.{reach_begins, reach_replaced, reach_same}
 use Rattle.walk.proofs.apply.begin_selected.Goals as goal

@@ -16,5 +16,4 @@ returns g c =
       goes = λ lent whole r. subst (λ l. Reached m c.args.max_depth lent whole (left l) (pending (shapes m) c.args.text.now 0 l []) st) none (inv.goes lent whole r);
       limit = inv.limit;
       memory = ap length c.pop.ensures.memory ∙ inv.memory;
-      loan = c.pop.ensures.loan ∙ inv.loan;
     }

@@ -24,7 +24,6 @@ returns-in_err-nested g c =
       goes = λ lent whole r. e.goes (fuel xs x c.requires) lent whole (left xs) _ (reach_newest xs x c.requires (c.len-depth.result + 1) d r);
       limit = e.limit;
       memory = refl;
-      loan = refl;
     })
 
 pub finish_frame-requires : goal.finish_frame-requires
@@ -55,7 +54,6 @@ returns-in_default g c =
           c.finish_frame.ensures m c.args.max_depth w lent whole (left xs) es (reach_same (ap (λ (z : ExpansionFrame). completed z.completion (part text z.start z.end) es) (sym e.frame)) at);
       limit = e.limit;
       memory = refl;
-      loan = refl;
     }
 
 pub returns : goal.returns
@@ -87,5 +85,4 @@ returns g c =
           subst (λ l. Reached m c.args.max_depth lent whole (left l) (pending (shapes m) text 0 l []) st) (sym both) (reach_nested xs x c.requires (c.len-depth.result + 1) d k n at₁);
       limit = e.limit;
       memory = ap length c.push-2.ensures.memory ∙ simp length-set slots;
-      loan = c.push-2.ensures.loan ∙ c.push.ensures.loan;
     }

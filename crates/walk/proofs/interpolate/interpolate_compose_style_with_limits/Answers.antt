@@ -1,28 +1,57 @@
-use Rattle.std.proofs.Common.{ℕ, List, length, replicate, sym, ◌∙◌, rules}
-use Rattle.source.specs.Shapes.{shapes}
-use Rattle.walk.specs.Outcomes.{limits}
-use Rattle.walk.specs.Walks.{walk}
-use Rattle.walk.proofs.Finishing.{end_of, passed, start}
+use Rattle.std.proofs.Common.{◌≤◌, length, sym, ap, ◌∙◌, subst, rules}
+use Rattle.budget.specs.declared.WorkBudget.{WorkBudget}
+use Rattle.source.specs.Shapes.{values}
+use Rattle.answers.specs.Told.{answer_of, area_of}
+use Rattle.expansion.proofs.AllLaws.{walk_laws}
+use Rattle.expansion.proofs.TrialLaws.{trials}
+use Rattle.walk.specs.Outcomes.{frames_needed, walk_of}
+use Rattle.walk.proofs.Finishing.{kept_plain, passed_told, passed_total}
 use Rattle.walk.proofs.interpolate.interpolate_compose_style_with_limits.Goals as goal
+
+pub returns-then-text-gt-TEXT_MAX : goal.returns-then-text-gt-TEXT_MAX
+returns-then-text-gt-TEXT_MAX g c =
+    record { answer = search rules; area = search rules; total = search rules; limit = search rules; laws = walk_laws; trials = trials }
+
+pub returns-then-frames-needed : goal.returns-then-frames-needed
+returns-then-frames-needed g c =
+    record { answer = search rules; area = search rules; total = search rules; limit = search rules; laws = walk_laws; trials = trials }
+
+pub returns-in_default : goal.returns-in_default
+returns-in_default g c =
+    let m = g.S.PropertySource.means c.args.source.now in
+    let text = c.args.text.now in
+    let w = c.args.work.now in
+    let n = length c.args.area.now in
+    let slots = length c.args.frames.now in
+    let whole = walk_of m c.args.syntax c.args.max_nested_expansions w text in
+    let enough : frames_needed (length text) ≤ slots = subst (λ k. k ≤ slots) c.frames_needed-needed.ensures c.if-frames-needed.false in
+    let told = passed_told (length text) slots c.if-text-gt-TEXT_MAX.false enough (values m) n whole in
+    let kept = kept_plain m c.args.syntax c.args.max_nested_expansions w text n (sym c.in_default.is ∙ c.find_dollar.ensures.place) in
+    record {
+      answer = c.keep_text.ensures.answer ∙ kept.answer ∙ ap answer_of told;
+      area = c.keep_text.ensures.area ∙ kept.area ∙ ap (area_of n) told;
+      total = ap (λ (v : WorkBudget). v.total) c.keep_text.ensures.work ∙ kept.total ∙ passed_total (length text) slots c.if-text-gt-TEXT_MAX.false enough w.total whole;
+      limit = ap (λ (v : WorkBudget). v.limit) c.keep_text.ensures.work;
+      laws = walk_laws;
+      trials = trials;
+    }
 
 pub returns : goal.returns
 returns g c =
     let m = g.S.PropertySource.means c.args.source.now in
     let text = c.args.text.now in
-    let whole = walk (shapes m) c.args.syntax (limits c.args.max_nested_expansions c.args.work.now.limit) c.args.work.now.total text in
-    let small = c.if-text-gt8192.false in
-    let begun = start m c.args.max_nested_expansions c.args.syntax _ text c.args.work.now c.new-out.result small c.new-out.ensures.holds in
-    let goes = c.walk_text-walked.ensures.goes _ whole begun in
-    let end = end_of m c.args.max_nested_expansions _ whole c.walk_text-walked.new.work c.walk_text-walked.new.marks c.walk_text-walked.new.out c.settle.new.out c.walk_text-walked.result goes c.settle.ensures in
-    let area = c.finish-fit.ensures.holds _ _ end.holds in
-    let fit = c.finish-fit.ensures.says _ _ end.holds in
-    let room = c.if-frames-needed.false in
-    let same = sym end.holds.same in
-    let zeros : List ℕ = replicate (length c.args.area.now) 0 in
-    let laid = area ∙ passed (length text) (length c.args.frames.now) zeros zeros _ small room in
+    let w = c.args.work.now in
+    let n = length c.args.area.now in
+    let slots = length c.args.frames.now in
+    let whole = walk_of m c.args.syntax c.args.max_nested_expansions w text in
+    let enough : frames_needed (length text) ≤ slots = subst (λ k. k ≤ slots) c.frames_needed-needed.ensures c.if-frames-needed.false in
+    let told = passed_told (length text) slots c.if-text-gt-TEXT_MAX.false enough (values m) n whole in
+    let e = c.expand_text.ensures in
     record {
-      answer = c.answer.ensures ∙ end.answers _ fit ∙ passed _ _ _ _ _ small room;
-      area = search rules;
-      total = end.total ∙ passed _ _ _ _ _ small room;
-      limit = c.walk_text-walked.ensures.limit;
+      answer = e.answer ∙ ap answer_of told;
+      area = e.area ∙ ap (area_of n) told;
+      total = e.total ∙ passed_total (length text) slots c.if-text-gt-TEXT_MAX.false enough w.total whole;
+      limit = e.limit;
+      laws = walk_laws;
+      trials = trials;
     }

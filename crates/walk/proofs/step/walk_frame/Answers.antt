@@ -1,7 +1,7 @@
 use Rattle.std.proofs.Common.{ℕ, ◌-◌, List, Ok, ap, ◌∙◌, subst}
 use Rattle.std.proofs.lemmas.Result.{err_from_is_err_and}
 use Rattle.budget.specs.declared.WorkBudget.{WorkBudget}
-use Rattle.walk.specs.Events.{Event}
+use Rattle.expansion.specs.Events.{Event}
 use Rattle.walk.specs.Frames.{Applies, OpensBy, moved, state}
 use Rattle.walk.proofs.Walking.{walk_asks, walk_end, walk_nested, walk_nests, walk_on, walk_refused, walk_stop}
 use Rattle.walk.proofs.step.walk_frame.Goals as goal

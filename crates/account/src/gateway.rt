@@ -1,0 +1,164 @@
+// A session of the gateway over a book, with the memory that it lends to each call.
+use crate::reply::Reply;
+use answers::Answer;
+use names::PropertySyntax;
+use pairs::record::PairRecord;
+use scopes::marks::RedactionMarks;
+use session::breach::BudgetBreach;
+use session::error::CallError;
+use session::redactions::{redact_custom_message, redact_dynamic_identifier, redact_dynamic_value};
+use session::session::PropertyInterpolation;
+use tables::book::Book;
+use walk::frame::ExpansionFrame;
+
+// How much memory is lent: bytes of output, frames, pair records and pair bytes.
+pub(crate) const AREA: usize = 40;
+
+pub(crate) const FRAMES: usize = 9;
+
+pub(crate) const RECORDS: usize = 4;
+
+pub(crate) const PAIR_BYTES: usize = 96;
+
+// How deep selected text may stand in selected text.
+pub(crate) const MAX_DEPTH: usize = 4;
+
+// What the display shows where a value or an identifier may not be shown.
+const FALLBACK: &[u8] = b"(not shown)";
+
+#[derive(Drop)]
+pub(crate) struct Gateway<'a> {
+    session: PropertyInterpolation<Book<'a>>,
+    frames: [ExpansionFrame; FRAMES],
+    records: [PairRecord; RECORDS],
+    bytes: [u8; PAIR_BYTES],
+    area: [u8; AREA],
+}
+
+impl<'a> Gateway<'a> {
+    pub(crate) fn new(book: &'a [u8], syntax: PropertySyntax, max_work: usize) -> Self {
+        Gateway {
+            session: PropertyInterpolation::new(Book::new(book), syntax, MAX_DEPTH, max_work),
+            frames: [ExpansionFrame::EMPTY; FRAMES],
+            records: [PairRecord::EMPTY; RECORDS],
+            bytes: [0; PAIR_BYTES],
+            area: [0; AREA],
+        }
+    }
+
+    pub(crate) fn breach(&self) -> Option<BudgetBreach> {
+        self.session.breach()
+    }
+
+    // What a call told. The session's total was `before`.
+    fn called<'t>(
+        &self,
+        call: &'static str,
+        text: &'t [u8],
+        answer: Result<Answer, CallError>,
+        before: usize,
+    ) -> Reply<'t> {
+        let total = self.session.total_work();
+        Reply {
+            call,
+            text,
+            answer,
+            area: self.area,
+            work: Some(total.saturating_sub(before)),
+            total: Some(total),
+        }
+    }
+
+    pub(crate) fn key<'t>(&mut self, marks: &mut RedactionMarks, text: &'t [u8]) -> Reply<'t> {
+        let before = self.session.total_work();
+        let answer = match self.session.interpolate_key(
+            text,
+            marks,
+            &mut self.frames,
+            &mut self.records,
+            &mut self.bytes,
+            &mut self.area,
+        ) {
+            Ok(answer) => Ok(answer),
+            Err(error) => Err(error.0),
+        };
+        self.called("key", text, answer, before)
+    }
+
+    pub(crate) fn value<'t>(&mut self, marks: &mut RedactionMarks, text: &'t [u8]) -> Reply<'t> {
+        self.value_in(FRAMES, marks, text)
+    }
+
+    // A value call that is lent the first `frames` frames.
+    pub(crate) fn value_in<'t>(
+        &mut self,
+        frames: usize,
+        marks: &mut RedactionMarks,
+        text: &'t [u8],
+    ) -> Reply<'t> {
+        let before = self.session.total_work();
+        let end = frames.min(FRAMES);
+        let answer = match self.session.interpolate_value(
+            text,
+            marks,
+            &mut self.frames[0..end],
+            &mut self.records,
+            &mut self.bytes,
+            &mut self.area,
+        ) {
+            Ok(answer) => Ok(answer),
+            Err(error) => Err(error.0),
+        };
+        self.called("value", text, answer, before)
+    }
+
+    // What a redaction told; it does no work that is counted.
+    fn shown<'t>(
+        &self,
+        call: &'static str,
+        text: &'t [u8],
+        answer: Result<Answer, CallError>,
+    ) -> Reply<'t> {
+        Reply {
+            call,
+            text,
+            answer,
+            area: self.area,
+            work: None,
+            total: None,
+        }
+    }
+
+    pub(crate) fn show_message<'t>(&mut self, marks: &RedactionMarks, text: &'t [u8]) -> Reply<'t> {
+        let answer = redact_custom_message(text, marks, &self.records, &self.bytes, &mut self.area);
+        self.shown("message", text, answer)
+    }
+
+    pub(crate) fn show_value<'t>(&mut self, marks: &RedactionMarks, text: &'t [u8]) -> Reply<'t> {
+        let answer = redact_dynamic_value(
+            text,
+            FALLBACK,
+            marks,
+            &self.records,
+            &self.bytes,
+            &mut self.area,
+        );
+        self.shown("value", text, answer)
+    }
+
+    pub(crate) fn show_identifier<'t>(
+        &mut self,
+        marks: &RedactionMarks,
+        text: &'t [u8],
+    ) -> Reply<'t> {
+        let answer = redact_dynamic_identifier(
+            text,
+            FALLBACK,
+            marks,
+            &self.records,
+            &self.bytes,
+            &mut self.area,
+        );
+        self.shown("identifier", text, answer)
+    }
+}

@@ -1,0 +1,12 @@
+pub mod LimitLaws
+pub mod ActLaws
+pub mod ItemLaws
+pub mod EndLaws
+pub mod SegmentLaws
+pub mod UnchangedLaws
+pub mod FreeLaws
+pub mod LengthLaws
+pub mod WrittenLaws
+pub mod ReferenceLaws
+pub mod AllLaws
+pub mod TrialLaws

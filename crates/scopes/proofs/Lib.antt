@@ -1,0 +1,3 @@
+pub mod MarksLaws
+mod NotesLaws
+pub mod PlacedLaws

@@ -1,0 +1,85 @@
+ghost use Rattle.std.specs.Prelude.{◌≡◌, ◌+◌, ◌≤◌, length, slice_set};
+ghost use Rattle.scopes.specs.Notes.{append_answer, append_memory, lacks, laid_at, memory, note_answer, note_memory};
+
+use crate::marks::RedactionMarks;
+use pairs::record::PairRecord;
+use stack::Stack;
+
+// A new pair finds no record, or too few bytes.
+#[derive(Clone, Copy, PartialEq, Eq, Debug)]
+pub struct PairsFull;
+
+// Puts a record behind the `used` ones in use, where there is a place for it.
+fn push_record(records: &mut [PairRecord], used: usize, new: PairRecord)
+    ensures { records.new ≡ slice_set records.old used new }
+{
+    let mut stack = Stack::with_len(records, used);
+    let _ = stack.push(new);
+}
+
+// Lays a text and its result into the bytes from `at` on.
+fn lay_pair(bytes: &mut [u8], at: usize, text: &[u8], res: &[u8])
+    requires { at + length text.now + length res.now ≤ length bytes.old }
+    ensures { bytes.new ≡ laid_at at (text.now, res.now) bytes.old }
+{
+    let middle = at + text.len();
+    let end = middle + res.len();
+    bytes[at..middle].copy_from_slice(text);
+    bytes[middle..end].copy_from_slice(res);
+}
+
+impl RedactionMarks {
+    // Whether the innermost open scope lacks a pair.
+    fn lacks(&self, text: &[u8], res: &[u8], records: &[PairRecord], bytes: &[u8]) -> bool
+        ensures { result ≡ lacks (memory self.now records.now bytes.now) (text.now, res.now) }
+    {
+        match self.start {
+            None => false,
+            Some(_) => !self.innermost(records, bytes).has(text, res),
+        }
+    }
+
+    // Records a pair behind those in use; nothing is changed where there is no room.
+    fn append(
+        &mut self,
+        text: &[u8],
+        res: &[u8],
+        records: &mut [PairRecord],
+        bytes: &mut [u8],
+    ) -> Result<(), PairsFull>
+        ensures says { result ≡ append_answer (memory self.old records.old bytes.old) (text.now, res.now) }
+        ensures memory { memory self.new records.new bytes.new ≡ append_memory (memory self.old records.old bytes.old) (text.now, res.now) }
+    {
+        let at = self.bytes;
+        let record = PairRecord {
+            at,
+            text: text.len(),
+            result: res.len(),
+        };
+        if records.len() <= self.records || !record.is_within(bytes.len()) {
+            return Err(PairsFull);
+        }
+        push_record(records, self.records, record);
+        lay_pair(bytes, at, text, res);
+        self.records += 1;
+        self.bytes = at + text.len() + res.len();
+        Ok(())
+    }
+
+    // Notes a pair in every open scope that lacks it: where the innermost does, it takes a record and its bytes.
+    pub fn note(
+        &mut self,
+        text: &[u8],
+        res: &[u8],
+        records: &mut [PairRecord],
+        bytes: &mut [u8],
+    ) -> Result<(), PairsFull>
+        ensures says { result ≡ note_answer (memory self.old records.old bytes.old) (text.now, res.now) }
+        ensures memory { memory self.new records.new bytes.new ≡ note_memory (memory self.old records.old bytes.old) (text.now, res.now) }
+    {
+        if self.lacks(text, res, records, bytes) {
+            self.append(text, res, records, bytes)?;
+        }
+        Ok(())
+    }
+}

@@ -1,0 +1,3 @@
+mod CheckLaws
+mod NoteLaws
+mod WalkLaws

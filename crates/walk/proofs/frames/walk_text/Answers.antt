@@ -1,0 +1,47 @@
+use Rattle.std.proofs.Common.{◌≡◌, ◌+◌, [], ◌∷◌, ◌++◌, length, sym, ap, ◌∙◌, subst, arith, length-set}
+use Rattle.std.proofs.lemmas.Result.{err_from_is_err_and}
+use Rattle.budget.specs.declared.WorkBudget.{WorkBudget}
+use Rattle.stack.specs.Held.{held, memory}
+use Rattle.source.specs.Shapes.{shapes}
+use Rattle.walk.specs.Frames.{Reached, state}
+use Rattle.walk.specs.Stacks.{Fit, left, pending}
+use Rattle.walk.proofs.Reaching.{reach_charge, reach_less, reach_same, stop_charge}
+use Rattle.walk.proofs.Stacking.{pushed}
+use Rattle.walk.proofs.Starting.{begins_walked, root_events, root_fit, root_frame}
+use Rattle.walk.proofs.frames.walk_text.Goals as goal
+
+pub returns-in_err-charge : goal.returns-in_err-charge
+returns-in_err-charge g c =
+    let e = c.in_err-charge.ensures in
+    let sh = shapes (g.S.PropertySource.means c.args.source.now) in
+    let p = err_from_is_err_and c.from_residual.result c.from_residual.ensures.1 in
+    rw (p.1, p.2) (record {
+      goes = λ lent whole r. stop_charge (c.args.first + 1) e.work _ e.says (reach_same (begins_walked sh c.args.syntax c.args.text.now c.args.first c.requires.place) r);
+      limit = ap (λ (v : WorkBudget). v.limit) e.work;
+    })
+
+pub walk_frames-requires : goal.walk_frames-requires
+walk_frames-requires g c =
+    let text = c.args.text.now in
+    let slots : length (memory c.push.new.self) ≡ length (memory c.args.frames.now) = ap length c.push.ensures.memory ∙ simp length-set in
+    let none = ap length c.requires.none in
+    let one : held c.push.new.self ≡ root_frame c.args.syntax text ∷ []
+    = pushed (held c.args.frames.now) (held c.push.new.self) (length (memory c.args.frames.now)) (root_frame c.args.syntax text) _ c.push.ensures.says c.push.ensures.elements (omega (arith, c.requires.enough)) ∙ ap (λ l. l ++ root_frame c.args.syntax text ∷ []) c.requires.none in
+    subst (Fit text (length (memory c.push.new.self))) (sym one) (root_fit c.args.syntax text _ (omega (arith, c.requires.within)) (omega (arith, c.requires.enough)))
+
+pub returns : goal.returns
+returns g c =
+    let e = c.in_ok-charge.ensures in
+    let m = g.S.PropertySource.means c.args.source.now in
+    let text = c.args.text.now in
+    let s = c.args.syntax in
+    let none = ap length c.requires.none in
+    let one : held c.push.new.self ≡ root_frame s text ∷ []
+    = pushed (held c.args.frames.now) (held c.push.new.self) (length (memory c.args.frames.now)) (root_frame c.args.syntax text) _ c.push.ensures.says c.push.ensures.elements (omega (arith, c.requires.enough)) ∙ ap (λ l. l ++ root_frame c.args.syntax text ∷ []) c.requires.none in
+    record {
+      goes = λ lent whole r.
+          let at = reach_charge (c.args.first + 1) e.work e.says (reach_same (begins_walked (shapes m) s text c.args.first c.requires.place) r) in
+          let in-root = reach_less (left (root_frame s text ∷ [])) (omega arith) (reach_same (root_events (shapes m) s text) at) in
+          c.walk_frames.ensures.goes lent whole (subst (λ l. Reached m c.args.max_depth lent whole (left l) (pending (shapes m) text 0 l []) (state c.charge.new.self c.args.marks.now c.args.out.now)) (sym one) in-root);
+      limit = c.walk_frames.ensures.limit ∙ ap (λ (v : WorkBudget). v.limit) e.work;
+    }

@@ -1,4 +1,0 @@
-pub mod Laws
-pub mod Segments
-pub mod References
-pub mod WalkLaws
