@@ -9,9 +9,8 @@ use Rattle.scopes.specs.declared.marks.RedactionMarks.{RedactionMarks}
 use Rattle.pairs.specs.declared.record.PairRecord.{PairRecord}
 use Rattle.session.specs.Calls.{Settings}
 use Rattle.runs.specs.declared.call.Call.{Call as CodeCall}
-use Rattle.runs.specs.declared.call.Reply.{Reply as CodeReply}
 use Rattle.runs.specs.Laws.{since, sized}
-use Rattle.runs.specs.Lines.{Chain, Line, call_of, line, line_of, lines, own, reply_of, text_read, text_told}
+use Rattle.runs.specs.Lines.{CodeReply, Chain, Line, call_of, line, line_of, lines, own, reply_of, text_read, text_told}
 use Rattle.runs.specs.Lines.Chain.{none, more}
 use Rattle.runs.specs.Memory.{Memory, answer_in, area_after, area_left, memory_after, memory_left, scopes_in, starts}
 use Rattle.runs.specs.Model.{Call, Effect, Entry, Meaning, Setup, answer, effect, run, run_from}

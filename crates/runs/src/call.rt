@@ -24,12 +24,8 @@ pub enum Call<'a> {
     End,
 }
 
-// What a call of a run comes to: an answer or a refusal, or nothing where a scope is opened or ended.
-#[derive(Clone, Copy)]
-pub enum Reply {
-    Told(Result<Answer, SessionError>),
-    Done,
-}
+// What a call of a run comes to: an answer or a refusal; no answer where a scope is opened or ended.
+pub type Reply = Result<Option<Answer>, SessionError>;
 
 impl<'a> Call<'a> {
     // The text that the call was given; none where a scope is opened or ended.
@@ -37,13 +33,12 @@ impl<'a> Call<'a> {
         ensures { result.now ≡ own (call_of self.entry) }
     {
         match self {
-            Call::Key(text) => text,
-            Call::Value(text) => text,
-            Call::Message(text) => text,
-            Call::Dynamic(text, _) => text,
-            Call::Identifier(name, _) => name,
-            Call::Open => &[],
-            Call::End => &[],
+            Call::Key(text)
+            | Call::Value(text)
+            | Call::Message(text)
+            | Call::Dynamic(text, _)
+            | Call::Identifier(text, _) => text,
+            Call::Open | Call::End => &[],
         }
     }
 }
@@ -56,21 +51,20 @@ fn message_len(refusal: SessionError) -> usize
     | SessionError::Value(refusal)
     | SessionError::Redaction(refusal)) = refusal;
     match refusal {
-        CallError::Property(PropertyError::RequiredButUnset(_, len)) => len,
-        CallError::Property(PropertyError::RequiredButEmpty(_, len)) => len,
+        CallError::Property(
+            PropertyError::RequiredButUnset(_, len) | PropertyError::RequiredButEmpty(_, len),
+        ) => len,
         _ => 0,
     }
 }
 
-impl Reply {
-    // The text of an answer, or the message of a refusal, by the text that the call was given and the area after it.
-    pub fn text<'a>(self, own: &'a [u8], area: &'a [u8]) -> &'a [u8]
-        ensures { result.now ≡ text_read self own.now area.now }
-    {
-        match self {
-            Reply::Told(Ok(answer)) => answer.text(own, area),
-            Reply::Told(Err(refusal)) => Answer::Replaced(message_len(refusal)).text(own, area),
-            Reply::Done => &[],
-        }
+// The text of an answer, or the message of a refusal, by the text that the call was given and the area after it.
+pub fn reply_text<'a>(reply: Reply, own: &'a [u8], area: &'a [u8]) -> &'a [u8]
+    ensures { result.now ≡ text_read reply own.now area.now }
+{
+    match reply {
+        Ok(Some(answer)) => answer.text(own, area),
+        Ok(None) => &[],
+        Err(refusal) => Answer::Replaced(message_len(refusal)).text(own, area),
     }
 }

@@ -5,38 +5,18 @@ ghost use Rattle.session.specs.Sessions.{settings};
 ghost use Rattle.runs.specs.Laws.{RaisingKeeps, ScopesHold, ValuesDoNotShow};
 ghost use Rattle.runs.specs.Lines.{call_of};
 ghost use Rattle.runs.specs.Runs.{Ends, lent as lent-to, setup};
-ghost use Rattle.runs.specs.Steps.{SameSession, Stepped, memory_of, of_key, of_redaction, of_value};
+ghost use Rattle.runs.specs.Steps.{SameSession, Stepped, memory_of};
 
-use crate::call::{Call, Reply};
+use crate::call::{Call, Reply, reply_text};
 use crate::journal::Journal;
-use answers::Answer;
 use names::PropertySyntax;
 use pairs::record::PairRecord;
 use scopes::marks::RedactionMarks;
-use session::error::{CallError, KeyError, SessionError, ValueError};
 use session::redactions::{redact_custom_message, redact_dynamic_identifier, redact_dynamic_value};
 use session::session::PropertyInterpolation;
 use source::source::PropertySource;
 use stack::Stack;
 use walk::frame::ExpansionFrame;
-
-fn told_key(answer: Result<Answer, KeyError>) -> Result<Answer, SessionError>
-    ensures { result ≡ of_key answer }
-{
-    Ok(answer?)
-}
-
-fn told_value(answer: Result<Answer, ValueError>) -> Result<Answer, SessionError>
-    ensures { result ≡ of_value answer }
-{
-    Ok(answer?)
-}
-
-fn told_redaction(answer: Result<Answer, CallError>) -> Result<Answer, SessionError>
-    ensures { result ≡ of_redaction answer }
-{
-    Ok(answer?)
-}
 
 // One call of a run. A scope that is opened has the start of the one before it kept.
 fn step<S: PropertySource>(
@@ -55,31 +35,29 @@ fn step<S: PropertySource>(
     ensures steps { Stepped (S.PropertySource.means session.old.source) (settings session.old (length frames.old) (length area.old)) (memory_of marks.old records.old bytes.old formers.old) session.old.work.total area.old (call_of call.entry) result (memory_of marks.new records.new bytes.new formers.new) session.new.work.total area.new }
 {
     match call {
-        Call::Key(text) => Reply::Told(told_key(session.interpolate_key(
+        Call::Key(text) => Ok(Some(session.interpolate_key(
             text, marks, frames, records, bytes, area,
-        ))),
-        Call::Value(text) => Reply::Told(told_value(session.interpolate_value(
+        )?)),
+        Call::Value(text) => Ok(Some(session.interpolate_value(
             text, marks, frames, records, bytes, area,
-        ))),
-        Call::Message(text) => Reply::Told(told_redaction(redact_custom_message(
-            text, marks, records, bytes, area,
-        ))),
-        Call::Dynamic(text, fallback) => Reply::Told(told_redaction(redact_dynamic_value(
+        )?)),
+        Call::Message(text) => Ok(Some(redact_custom_message(text, marks, records, bytes, area)?)),
+        Call::Dynamic(text, fallback) => Ok(Some(redact_dynamic_value(
             text, fallback, marks, records, bytes, area,
-        ))),
-        Call::Identifier(name, fallback) => Reply::Told(told_redaction(redact_dynamic_identifier(
+        )?)),
+        Call::Identifier(name, fallback) => Ok(Some(redact_dynamic_identifier(
             name, fallback, marks, records, bytes, area,
-        ))),
+        )?)),
         Call::Open => {
             let former = marks.enter();
             let _ = formers.push(former);
-            Reply::Done
+            Ok(None)
         }
         Call::End => {
             if let Some(former) = formers.pop() {
                 marks.leave(former);
             }
-            Reply::Done
+            Ok(None)
         }
     }
 }
@@ -132,7 +110,7 @@ pub fn run<S: PropertySource, J: Journal>(
             area,
             &mut starts,
         );
-        let text = reply.text(call.text(), area);
+        let text = reply_text(reply, call.text(), area);
         journal.tell(*call, reply, text, session.total_work());
     }
     Ok(marks)

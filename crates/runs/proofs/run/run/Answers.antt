@@ -62,10 +62,10 @@ loop-call-preserved g c =
       running_more g.J.Journal.tells (means p.source.now) (settings p (length a.frames.now) (length a.area.now)) a.calls.now
           (lent a.records.now a.bytes.now a.area.now (lent_of c.new-starts.result)) a.journal.now
           l.call-index (memory_of l.marks l.records l.bytes l.starts) (memory_of q.marks q.records q.bytes q.formers) l.session.work.total q.session.work.total l.area q.area l.journal c.tell.new.self
-          _ c.step-reply.result c.text-text.result.now
+          _ c.step-reply.result c.reply_text-text.result.now
           c.loop-call-test.true room l.auto.area v.3
           (stepped_moved (means l.session.source.now) (means p.source.now) (settings l.session (length l.frames) (length l.area)) (settings p (length a.frames.now) (length a.area.now)) (ap means v.1) same e.steps)
-          (c.text-text.ensures ∙ ap (λ x. text_read c.step-reply.result x q.area) c.text.ensures)
+          (c.reply_text-text.ensures ∙ ap (λ x. text_read c.step-reply.result x q.area) c.text.ensures)
           c.total_work.result c.total_work.ensures c.tell.ensures,
     )
 
