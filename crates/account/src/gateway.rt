@@ -71,17 +71,17 @@ impl<'a> Gateway<'a> {
 
     pub(crate) fn key<'t>(&mut self, marks: &mut RedactionMarks, text: &'t [u8]) -> Reply<'t> {
         let before = self.session.total_work();
-        let answer = match self.session.interpolate_key(
-            text,
-            marks,
-            &mut self.frames,
-            &mut self.records,
-            &mut self.bytes,
-            &mut self.area,
-        ) {
-            Ok(answer) => Ok(answer),
-            Err(error) => Err(error.0),
-        };
+        let answer = self
+            .session
+            .interpolate_key(
+                text,
+                marks,
+                &mut self.frames,
+                &mut self.records,
+                &mut self.bytes,
+                &mut self.area,
+            )
+            .map_err(|error| error.0);
         self.called("key", text, answer, before)
     }
 
@@ -98,17 +98,17 @@ impl<'a> Gateway<'a> {
     ) -> Reply<'t> {
         let before = self.session.total_work();
         let end = frames.min(FRAMES);
-        let answer = match self.session.interpolate_value(
-            text,
-            marks,
-            &mut self.frames[0..end],
-            &mut self.records,
-            &mut self.bytes,
-            &mut self.area,
-        ) {
-            Ok(answer) => Ok(answer),
-            Err(error) => Err(error.0),
-        };
+        let answer = self
+            .session
+            .interpolate_value(
+                text,
+                marks,
+                &mut self.frames[0..end],
+                &mut self.records,
+                &mut self.bytes,
+                &mut self.area,
+            )
+            .map_err(|error| error.0);
         self.called("value", text, answer, before)
     }
 

@@ -1,10 +1,9 @@
 -- A call after its checks.
 use Rattle.std.proofs.Common.{◌≡◌, ℕ, List, Ok, Err, Result, sym, refl, ap}
 use Rattle.answers.specs.Told.{Told, unchanged, replaced, refused, answer_of, area_of}
-use Rattle.answers.specs.declared.OutputTooShort.{OutputTooShort as Short}
 use Rattle.scopes.specs.Notes.{PairMemory}
 use Rattle.session.specs.Calls.{heard, if_passed, refusing}
-use Rattle.session.specs.Shown.{as_shown, denied, shown_answer}
+use Rattle.session.specs.Shown.{denied}
 use Rattle.session.specs.declared.error.CallError.{CallError}
 
 -- what was checked gave its verdict
@@ -13,17 +12,6 @@ on_refused v e deny x is = ap (λ w. if_passed w deny x) (sym is)
 
 pub on_passed : {X : Type 0} (v : Result (Unit {0}) CallError) (u : Unit {0}) (deny : CallError → X) (x : X) → Ok u ≡ v → if_passed v deny x ≡ x
 on_passed v u deny x is = ap (λ w. if_passed w deny x) (sym is)
-
--- a redaction's answer and area are those of the call
-pub shown_is : (t : Told Short) → shown_answer (answer_of t) ≡ answer_of (as_shown t)
-shown_is unchanged = refl
-shown_is (replaced text) = refl
-shown_is (refused e message) = refl
-
-pub area_is : (n : ℕ) (t : Told Short) → area_of n t ≡ area_of n (as_shown t)
-area_is n unchanged = refl
-area_is n (replaced text) = refl
-area_is n (refused e message) = refl
 
 -- a key that has no references: what is told, and the total
 module _ (v : Result (Unit {0}) CallError) (t : ℕ) where

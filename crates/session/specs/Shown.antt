@@ -3,7 +3,6 @@ use Rattle.std.specs.Prelude.{ℕ, Bool, cond, ◌||◌, List, [], length, Ok, E
 use Rattle.text.specs.Texts.{text_max, text_verdict}
 use Rattle.text.specs.declared.TextError.TheVariants.{TooLong}
 use Rattle.answers.specs.Told.{Told, unchanged, replaced, refused}
-use Rattle.answers.specs.declared.Answer.{Answer}
 use Rattle.answers.specs.declared.OutputTooShort.{OutputTooShort as Short}
 use Rattle.pairs.specs.Pairs.{Pair}
 use Rattle.redaction.specs.Redactions.{identified, message_fallback, redacted}
@@ -24,10 +23,6 @@ abbrev pub as_shown : Told Short → Told CallError
 as_shown unchanged = unchanged
 as_shown (replaced r) = replaced r
 as_shown (refused e message) = refused (OutputTooShort e.needed) message
-
-abbrev pub shown_answer : Result Answer Short → Result Answer CallError
-shown_answer (Ok a) = Ok a
-shown_answer (Err e) = Err (OutputTooShort e.needed)
 
 -- a refusal without a message
 abbrev pub denied : CallError → Told CallError

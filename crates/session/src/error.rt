@@ -48,9 +48,7 @@ impl CallError {
             CallError::BadPairs => 12,
         }
     }
-}
 
-impl CallError {
     // The limit that the call passed.
     pub fn breach(&self) -> Option<BudgetBreach>
         ensures { result ≡ breach_of self.now }

@@ -2,22 +2,15 @@ ghost use Rattle.std.specs.Prelude.{◌≡◌, length};
 ghost use Rattle.answers.specs.Told.{answer_of, area_of};
 ghost use Rattle.pairs.specs.Pairs.{firsts};
 ghost use Rattle.scopes.specs.Marks.{innermost, sound};
-ghost use Rattle.session.specs.Shown.{identifier_told, message_told, shown_answer, value_told};
+ghost use Rattle.session.specs.Shown.{identifier_told, message_told, value_told};
 
 use crate::checks::check_shown;
 use crate::error::CallError;
 use crate::refuse::refuse;
-use answers::{Answer, OutputTooShort};
+use answers::Answer;
 use pairs::record::PairRecord;
-use redaction::redact::{MESSAGE_FALLBACK, redact_identifier, redact_message, redact_value};
+use redaction::redact::{MESSAGE_FALLBACK, redact_identifier, redact_value};
 use scopes::marks::RedactionMarks;
-
-// What a redaction answers, as an answer of a call.
-fn shown(answer: Result<Answer, OutputTooShort>) -> Result<Answer, CallError>
-    ensures { result ≡ shown_answer answer }
-{
-    Ok(answer?)
-}
 
 // A message without the results of the pairs of the innermost open scope; a fixed text where nothing could be put back.
 pub fn redact_custom_message(
@@ -30,11 +23,7 @@ pub fn redact_custom_message(
     ensures answer { result ≡ answer_of (message_told (length area.old) (sound marks.now records.now (length bytes.now)) (firsts (innermost marks.now records.now bytes.now)) text.now) }
     ensures area { area.new ≡ area_of (length area.old) (message_told (length area.old) (sound marks.now records.now (length bytes.now)) (firsts (innermost marks.now records.now bytes.now)) text.now) }
 {
-    if let Err(refusal) = check_shown(text, MESSAGE_FALLBACK, marks, records, bytes.len()) {
-        return refuse(refusal, area);
-    }
-    let pairs = marks.innermost(records, bytes);
-    shown(redact_message(text, &pairs, area))
+    redact_dynamic_value(text, MESSAGE_FALLBACK, marks, records, bytes, area)
 }
 
 // A value without the results of the pairs of the innermost open scope; the fallback where nothing could be put back.
@@ -53,7 +42,7 @@ pub fn redact_dynamic_value(
         return refuse(refusal, area);
     }
     let pairs = marks.innermost(records, bytes);
-    shown(redact_value(text, fallback, &pairs, area))
+    Ok(redact_value(text, fallback, &pairs, area)?)
 }
 
 // The text of the first pair of the innermost open scope whose result is the identifier, or the fallback.
@@ -72,5 +61,5 @@ pub fn redact_dynamic_identifier(
         return refuse(refusal, area);
     }
     let pairs = marks.innermost(records, bytes);
-    shown(redact_identifier(name, fallback, &pairs, area))
+    Ok(redact_identifier(name, fallback, &pairs, area)?)
 }

@@ -1,7 +1,7 @@
 -- The first n elements of a memory m, once for every kind of element. Assumes nothing.
 use Rattle.std.proofs.Common.{◌≡◌, ℕ, ◌+◌, ◌-◌, ◌<◌, ◌≤◌, min, ltb, ◌⊎◌, List, [], ◌∷◌, ◌++◌, length, get_or, take, drop, set, Some, None, Ok, Err, sym, refl, ap, ◌∙◌, inl, inr, arith}
 use Rattle.std.proofs.lemmas.List.{get_or-take, length-take-le, set-append_left, set_past, take_all, take-append-drop, take_at, take_more, take-take, length-set}
-use Rattle.std.proofs.lemmas.Option.{slice_get_past, slice_get_read}
+use Rattle.std.proofs.lemmas.Option.{slice_get_read}
 use Rattle.std.proofs.lemmas.Bool.{cases_lt, le-ltb, lt-ltb}
 use Rattle.std.specs.List.{slice_get}
 use Rattle.stack.specs.Held.{offered}
@@ -59,24 +59,3 @@ module _ {X : Type 0} (m : List X) (n : ℕ) (low : n ≤ length m) where
       let k : n ≡ n - 1 + 1 = omega arith in
       let l : n - 1 < length m = omega arith in
       ap (λ i. take i m) k ∙ take_more m (n - 1) x l ∙ ap (λ y. take (n - 1) m ++ y ∷ []) (sym e)
-
-  pub cut_off : (k : ℕ) → k < n → take k m ≡ take k (take n m)
-  cut_off k h = let l : k ≤ n = omega arith in sym (take-take k n m l)
-
-  pub not_cut : (k : ℕ) → n ≤ k → take n m ≡ take k (take n m)
-  not_cut k h = let l : length (take n m) ≤ k = omega (arith, long) in sym (take_all k (take n m) l)
-
--- a read of the list ys that is xs
-module _ {X : Type 0} (xs ys : List X) (i : ℕ) (e : ys ≡ xs) where
-  pub read_of : (x : X) → i < length ys → x ≡ get_or ys i x → Some x ≡ slice_get xs i
-  read_of x h r = sym (slice_get_read ys (length ys) i x refl h r) ∙ ap (λ zs. slice_get zs i) e
-
-  pub unread_of : length ys ≤ i → None ≡ slice_get xs i
-  unread_of h = sym (slice_get_past ys i h) ∙ ap (λ zs. slice_get zs i) e
-
-pub cut_to : {X : Type 0} (m : List X) (k n : ℕ) → n ≡ min k (length m) → take n m ≡ take k m
-cut_to m k n e = go (cases_lt k (length m))
-  where
-    go : (k < length m) ⊎ (length m ≤ k) → take n m ≡ take k m
-    go (inl h) = let l : n ≡ k = omega arith in ap (λ i. take i m) l
-    go (inr h) = let l : length m ≤ n = omega arith in take_all n m l ∙ sym (take_all k m h)

@@ -45,10 +45,7 @@ impl<'a, T: Copy> Stack<'a, T> {
         ensures memory { memory self.new ≡ memory self.old }
         ensures loan { loan self.new ≡ loan self.old }
     {
-        if self.used == 0 {
-            return None;
-        }
-        let last = self.used - 1;
+        let last = self.used.checked_sub(1)?;
         self.used = last;
         Some(self.items[last])
     }
@@ -59,8 +56,6 @@ impl<'a, T: Copy> Stack<'a, T> {
         ensures memory { memory self.new ≡ memory self.old }
         ensures loan { loan self.new ≡ loan self.old }
     {
-        if len < self.used {
-            self.used = len;
-        }
+        self.used = self.used.min(len);
     }
 }

@@ -50,11 +50,6 @@ impl<'a, T: Copy> Stack<'a, T> {
     pub fn get(&self, at: usize) -> Option<T>
         ensures { result ≡ slice_get (held self.now) at }
     {
-        let items = self.as_slice();
-        if at < items.len() {
-            Some(items[at])
-        } else {
-            None
-        }
+        self.as_slice().get(at).copied()
     }
 }
