@@ -1,6 +1,5 @@
 ghost use Rattle.std.specs.Prelude.{◌≡◌, length};
 ghost use Rattle.answers.specs.Told.{answer_of, area_of, unchanged};
-ghost use Rattle.scopes.specs.Marks.{sound};
 ghost use Rattle.scopes.specs.Notes.{memory};
 ghost use Rattle.session.specs.Breaches.{kept_breach};
 ghost use Rattle.session.specs.Calls.{call_checked, heard, if_passed};
@@ -21,18 +20,11 @@ use walk::frame::ExpansionFrame;
 use walk::interpolate::interpolate_compose_style_with_limits;
 
 // A key that is checked, and has no references.
-fn leave_key(
-    text: &[u8],
-    frames: usize,
-    marks: &RedactionMarks,
-    records: &[PairRecord],
-    n: usize,
-    area: &mut [u8],
-) -> Result<Answer, CallError>
-    ensures answer { result ≡ answer_of (if_passed (call_checked frames (sound marks.now records.now n) text.now) denied unchanged) }
-    ensures area { area.new ≡ area_of (length area.old) (if_passed (call_checked frames (sound marks.now records.now n) text.now) denied unchanged) }
+fn leave_key(text: &[u8], frames: usize, sound: bool, area: &mut [u8]) -> Result<Answer, CallError>
+    ensures answer { result ≡ answer_of (if_passed (call_checked frames sound text.now) denied unchanged) }
+    ensures area { area.new ≡ area_of (length area.old) (if_passed (call_checked frames sound text.now) denied unchanged) }
 {
-    if let Err(refusal) = check_call(text, frames, marks, records, n) {
+    if let Err(refusal) = check_call(text, frames, sound) {
         return refuse(refusal, area);
     }
     area.fill(0);
@@ -94,7 +86,7 @@ impl<S: PropertySource> PropertyInterpolation<S> {
         ensures area { area.new ≡ area_of (length area.old) (value_call S.PropertySource.means self.old (memory marks.old records.old bytes.old) (length frames.old) (length area.old) text.now).0 }
         ensures pairs { memory marks.new records.new bytes.new ≡ heard (memory marks.old records.old bytes.old) text.now (value_call S.PropertySource.means self.old (memory marks.old records.old bytes.old) (length frames.old) (length area.old) text.now).0 }
     {
-        if let Err(refusal) = check_call(text, frames.len(), marks, records, bytes.len()) {
+        if let Err(refusal) = check_call(text, frames.len(), marks.is_sound(records, bytes.len())) {
             return refuse(refusal, area);
         }
         self.walk(text, marks, frames, records, bytes, area)
@@ -120,7 +112,8 @@ impl<S: PropertySource> PropertyInterpolation<S> {
                 self.walk_checked(text, marks, frames, records, bytes, area)
             }
             PropertySyntax::DockerCompose => {
-                leave_key(text, frames.len(), marks, records, bytes.len(), area)
+                let sound = marks.is_sound(records, bytes.len());
+                leave_key(text, frames.len(), sound, area)
             }
         }
     }

@@ -1,19 +1,16 @@
 ghost use Rattle.std.specs.Prelude.{◌≡◌};
-ghost use Rattle.scopes.specs.Marks.{sound};
 ghost use Rattle.session.specs.Calls.{call_checked, pairs_checked};
 ghost use Rattle.session.specs.Shown.{shown_checked};
 
 use crate::error::CallError;
-use pairs::record::PairRecord;
-use scopes::marks::RedactionMarks;
 use text::{TEXT_MAX, TextError, check_text};
 use walk::interpolate::frames_needed;
 
-// Whether the records in use lie inside n pair bytes.
-fn check_pairs(marks: &RedactionMarks, records: &[PairRecord], n: usize) -> Result<(), CallError>
-    ensures { result ≡ pairs_checked (sound marks.now records.now n) }
+// Refuses a pair memory that is not sound.
+fn check_pairs(sound: bool) -> Result<(), CallError>
+    ensures { result ≡ pairs_checked sound }
 {
-    if marks.is_sound(records, n) {
+    if sound {
         Ok(())
     } else {
         Err(CallError::BadPairs)
@@ -21,37 +18,25 @@ fn check_pairs(marks: &RedactionMarks, records: &[PairRecord], n: usize) -> Resu
 }
 
 // What a key or value call is refused for before anything is charged: its text, the frames, the pair memory.
-pub(crate) fn check_call(
-    text: &[u8],
-    frames: usize,
-    marks: &RedactionMarks,
-    records: &[PairRecord],
-    n: usize,
-) -> Result<(), CallError>
-    ensures { result ≡ call_checked frames (sound marks.now records.now n) text.now }
+pub(crate) fn check_call(text: &[u8], frames: usize, sound: bool) -> Result<(), CallError>
+    ensures { result ≡ call_checked frames sound text.now }
 {
     check_text(text)?;
     let needed = frames_needed(text.len());
     if frames < needed {
         return Err(CallError::TooFewFrames(needed));
     }
-    check_pairs(marks, records, n)
+    check_pairs(sound)
 }
 
 // What a redaction is refused for at once: its text and fallback, both lengths first, and the pair memory.
-pub(crate) fn check_shown(
-    text: &[u8],
-    fallback: &[u8],
-    marks: &RedactionMarks,
-    records: &[PairRecord],
-    n: usize,
-) -> Result<(), CallError>
-    ensures { result ≡ shown_checked (sound marks.now records.now n) text.now fallback.now }
+pub(crate) fn check_shown(text: &[u8], fallback: &[u8], sound: bool) -> Result<(), CallError>
+    ensures { result ≡ shown_checked sound text.now fallback.now }
 {
     if text.len() > TEXT_MAX || fallback.len() > TEXT_MAX {
         return Err(CallError::Text(TextError::TooLong));
     }
     check_text(text)?;
     check_text(fallback)?;
-    check_pairs(marks, records, n)
+    check_pairs(sound)
 }

@@ -38,7 +38,8 @@ pub fn redact_dynamic_value(
     ensures answer { result ≡ answer_of (value_told (length area.old) (sound marks.now records.now (length bytes.now)) (firsts (innermost marks.now records.now bytes.now)) text.now fallback.now) }
     ensures area { area.new ≡ area_of (length area.old) (value_told (length area.old) (sound marks.now records.now (length bytes.now)) (firsts (innermost marks.now records.now bytes.now)) text.now fallback.now) }
 {
-    if let Err(refusal) = check_shown(text, fallback, marks, records, bytes.len()) {
+    let sound = marks.is_sound(records, bytes.len());
+    if let Err(refusal) = check_shown(text, fallback, sound) {
         return refuse(refusal, area);
     }
     let pairs = marks.innermost(records, bytes);
@@ -57,7 +58,8 @@ pub fn redact_dynamic_identifier(
     ensures answer { result ≡ answer_of (identifier_told (length area.old) (sound marks.now records.now (length bytes.now)) (firsts (innermost marks.now records.now bytes.now)) name.now fallback.now) }
     ensures area { area.new ≡ area_of (length area.old) (identifier_told (length area.old) (sound marks.now records.now (length bytes.now)) (firsts (innermost marks.now records.now bytes.now)) name.now fallback.now) }
 {
-    if let Err(refusal) = check_shown(name, fallback, marks, records, bytes.len()) {
+    let sound = marks.is_sound(records, bytes.len());
+    if let Err(refusal) = check_shown(name, fallback, sound) {
         return refuse(refusal, area);
     }
     let pairs = marks.innermost(records, bytes);
