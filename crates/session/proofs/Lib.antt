@@ -1,3 +1,1 @@
-mod CheckLaws
 mod NoteLaws
-mod WalkLaws
