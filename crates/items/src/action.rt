@@ -10,7 +10,7 @@ use references::error::{PropertyError, Span};
 use references::op::{BraceOp, BraceRef};
 
 // How a completed frame is applied: as the text, in its parent, or as the message of a required property with this name.
-#[derive(Clone, Copy)]
+#[derive(Clone, Copy, PartialEq, Eq, Debug)]
 pub enum FrameCompletion {
     Root,
     Append,
@@ -19,7 +19,7 @@ pub enum FrameCompletion {
 }
 
 // What is done at a place of a frame.
-#[derive(Clone, Copy)]
+#[derive(Clone, Copy, PartialEq, Eq, Debug)]
 pub enum Action<'a> {
     // The byte stands for itself.
     Keep(u8),
@@ -34,7 +34,7 @@ pub enum Action<'a> {
 }
 
 // An action, and the place behind what it was read from.
-#[derive(Clone, Copy)]
+#[derive(Clone, Copy, PartialEq, Eq, Debug)]
 pub struct Step<'a> {
     pub action: Action<'a>,
     pub next: usize,
