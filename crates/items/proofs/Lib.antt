@@ -1,2 +1,1 @@
 pub mod LookLaws
-pub mod ByteLaws

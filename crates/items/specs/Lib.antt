@@ -1,3 +1,4 @@
 pub mod Pieces
 pub mod Items
 pub mod Looks
+pub mod Reading

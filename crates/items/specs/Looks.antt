@@ -109,18 +109,14 @@ Ends n i (Property name len) next = (i < next) × (next ≤ n)
 Ends n i Nothing next = (i < next) × (next ≤ n)
 Ends n i (Interpolate text completion) next = (i + (length text.now + 5) ≤ next) × (next ≤ n)
 
-abbrev pub Lies : ℕ → ℕ → Result Step PropertyError → Type 0
-Lies n i (Ok p) = Ends n i p.action p.next
-Lies n i (Err e) = Unit {0}
-
--- selected text is shorter than n
-abbrev pub Small : ℕ → Result Action PropertyError → Type 0
-Small n (Ok (Keep b)) = Unit {0}
-Small n (Ok Dollar) = Unit {0}
-Small n (Ok (Property name len)) = Unit {0}
-Small n (Ok Nothing) = Unit {0}
-Small n (Ok (Interpolate text completion)) = length text.now < n
-Small n (Err e) = Unit {0}
+-- What a reference to a name yields, by the length of the name's value: a property is that name with that length, and selected text is shorter than m.
+abbrev pub Yields : List ℕ → Option ℕ → ℕ → Result Action PropertyError → Type 0
+Yields name value m (Ok (Keep b)) = Unit {0}
+Yields name value m (Ok Dollar) = Unit {0}
+Yields name value m (Ok (Property x len)) = (x.now ≡ name) × (Some len ≡ value)
+Yields name value m (Ok Nothing) = Unit {0}
+Yields name value m (Ok (Interpolate text completion)) = length text.now < m
+Yields name value m (Err e) = Unit {0}
 
 abbrev pub Stays : ℕ → ℕ → Result (Option Step) PropertyError → Type 0
 Stays n i (Ok None) = Unit {0}
@@ -135,13 +131,10 @@ Known means (Property name len) = Some len ≡ option_map length (means name.now
 Known means Nothing = Unit {0}
 Known means (Interpolate text completion) = Unit {0}
 
-abbrev pub Asked : (List ℕ → Option (List ℕ)) → Result Action PropertyError → Type 0
-Asked means (Ok a) = Known means a
-Asked means (Err e) = Unit {0}
-
-abbrev pub AskedStep : (List ℕ → Option (List ℕ)) → Result Step PropertyError → Type 0
-AskedStep means (Ok p) = Known means p.action
-AskedStep means (Err e) = Unit {0}
+-- an action at the place i of a frame of n bytes, with the place behind what it was read from
+abbrev pub Sound : (List ℕ → Option (List ℕ)) → ℕ → ℕ → Result Action PropertyError → ℕ → Type 0
+Sound means n i (Ok a) next = Ends n i a next × Known means a
+Sound means n i (Err e) next = Unit {0}
 
 abbrev pub AskedLook : (List ℕ → Option (List ℕ)) → Result (Option Step) PropertyError → Type 0
 AskedLook means (Ok None) = Unit {0}

@@ -1,13 +1,12 @@
-ghost use Rattle.std.specs.Prelude.{◌≡◌, ℕ, ◌+◌, ◌^◌, ◌<◌, List, length, Option};
-ghost use Rattle.std.specs.Option.{option_map};
-ghost use Rattle.items.specs.Items.{op_act, plain_act};
-ghost use Rattle.items.specs.Looks.{Asked, Small, action_told, acted, shape_by};
+ghost use Rattle.std.specs.Prelude.{◌≡◌, ℕ, ◌+◌, ◌^◌, ◌<◌, length};
+ghost use Rattle.items.specs.Items.{op_act, plain_act, span};
+ghost use Rattle.items.specs.Looks.{Yields, action_told, acted, shape_by};
 ghost use Rattle.references.specs.Braces.{op_of};
 ghost use Rattle.references.specs.Reads.{word_len};
 
 use names::PropertySyntax;
 use references::error::{PropertyError, Span};
-use references::op::{BraceOp, BraceRef};
+use references::op::BraceOp;
 
 // How a completed frame is applied: as the text, in its parent, or as the message of a required property with this name.
 #[derive(Clone, Copy, PartialEq, Eq, Debug)]
@@ -40,71 +39,73 @@ pub struct Step<'a> {
     pub next: usize,
 }
 
-// A reference without an operator; its name stands at `from`.
-pub(crate) fn resolve_plain<'a>(
-    name: &'a [u8],
-    from: usize,
-    value: Option<usize>,
-    syntax: PropertySyntax,
-) -> Result<Action<'a>, PropertyError>
-    requires { from + length name.now < 2 ^ 64 }
-    ensures asked { (means : List ℕ → Option (List ℕ)) → value ≡ option_map length (means name.now) → Asked means result }
-    ensures fits { Small 0 result }
-    ensures says { (close : ℕ) → action_told close result ≡ acted (plain_act syntax (shape_by value) from name.now) }
-{
-    if let Some(len) = value {
-        return Ok(Action::Property(name, len));
-    }
-    match syntax {
-        PropertySyntax::DockerCompose => Ok(Action::Nothing),
-        PropertySyntax::Braced | PropertySyntax::BracedOrBare => Err(PropertyError::Unresolved(
-            Span {
-                start: from,
-                end: from + name.len(),
-            },
-        )),
-    }
+// A property that a reference names: the name, its place in the call's text, and the length of the value; None where it is unset.
+#[derive(Drop)]
+pub(crate) struct Named<'a> {
+    pub(crate) name: &'a [u8],
+    pub(crate) from: usize,
+    pub(crate) value: Option<usize>,
+    ghost fits: { from + length name.now < 2 ^ 64 },
 }
 
-// What a reference in braces yields, by the length of its property's value, or nothing where that is unset.
-pub(crate) fn resolve_brace_action<'a>(
-    brace: BraceRef<'a>,
-    from: usize,
-    value: Option<usize>,
-    syntax: PropertySyntax,
-) -> Result<Action<'a>, PropertyError>
-    requires { from + length brace.name.now < 2 ^ 64 }
-    ensures asked { (means : List ℕ → Option (List ℕ)) → value ≡ option_map length (means brace.entry.name.now) → Asked means result }
-    ensures fits { Small (word_len (op_of brace.entry.op)) result }
-    ensures says { (close : ℕ) → action_told close result ≡ acted (op_act syntax (shape_by value) from brace.entry.name.now close (op_of brace.entry.op)) }
-{
-    let name = brace.name;
-    let span = Span {
-        start: from,
-        end: from + name.len(),
-    };
-    match (brace.op, value) {
-        (BraceOp::Required, _) => resolve_plain(name, from, value, syntax),
-        (BraceOp::DefaultIfUnset(text), None)
-        | (BraceOp::DefaultIfUnsetOrEmpty(text), None | Some(0)) => {
-            Ok(Action::Interpolate(text, FrameCompletion::Append))
+impl<'a> Named<'a> {
+    // Where the name stands in the call's text.
+    fn span(&self) -> Span
+        ensures { result ≡ span self.now.from (length self.now.name.now) }
+    {
+        Span {
+            start: self.from,
+            end: self.from + self.name.len(),
         }
-        (BraceOp::DefaultIfUnset(_) | BraceOp::DefaultIfUnsetOrEmpty(_), Some(len)) => Ok(
-            Action::Property(name, len),
-        ),
-        (BraceOp::AlternateIfSet(_), None)
-        | (BraceOp::AlternateIfSetAndNonEmpty(_), None | Some(0)) => Ok(Action::Nothing),
-        (BraceOp::AlternateIfSet(text) | BraceOp::AlternateIfSetAndNonEmpty(text), Some(_)) => {
-            Ok(Action::Interpolate(text, FrameCompletion::Append))
+    }
+
+    // What a reference without an operator yields.
+    pub(crate) fn plain(&self, syntax: PropertySyntax) -> Result<Action<'a>, PropertyError>
+        ensures says { (close : ℕ) → action_told close result ≡ acted (plain_act syntax (shape_by self.now.value) self.now.from self.now.name.now) }
+        ensures yields { Yields self.now.name.now self.now.value 0 result }
+    {
+        match (self.value, syntax) {
+            (Some(len), _) => Ok(Action::Property(self.name, len)),
+            (None, PropertySyntax::DockerCompose) => Ok(Action::Nothing),
+            (None, PropertySyntax::Braced | PropertySyntax::BracedOrBare) => Err(
+                PropertyError::Unresolved(self.span()),
+            ),
         }
-        (BraceOp::ErrorIfUnset(text) | BraceOp::ErrorIfUnsetOrEmpty(text), None) => {
-            Ok(Action::Interpolate(text, FrameCompletion::RequiredButUnset(span)))
+    }
+
+    // What a reference in braces yields.
+    pub(crate) fn braced(
+        &self,
+        op: BraceOp<'a>,
+        syntax: PropertySyntax,
+    ) -> Result<Action<'a>, PropertyError>
+        ensures says { (close : ℕ) → action_told close result ≡ acted (op_act syntax (shape_by self.now.value) self.now.from self.now.name.now close (op_of op.entry)) }
+        ensures yields { Yields self.now.name.now self.now.value (word_len (op_of op.entry)) result }
+    {
+        match (op, self.value) {
+            (BraceOp::Required, _) => self.plain(syntax),
+            (BraceOp::DefaultIfUnset(text), None)
+            | (BraceOp::DefaultIfUnsetOrEmpty(text), None | Some(0)) => {
+                Ok(Action::Interpolate(text, FrameCompletion::Append))
+            }
+            (BraceOp::AlternateIfSet(_), None)
+            | (BraceOp::AlternateIfSetAndNonEmpty(_), None | Some(0)) => Ok(Action::Nothing),
+            (BraceOp::AlternateIfSet(text) | BraceOp::AlternateIfSetAndNonEmpty(text), Some(_)) => {
+                Ok(Action::Interpolate(text, FrameCompletion::Append))
+            }
+            (BraceOp::ErrorIfUnset(text) | BraceOp::ErrorIfUnsetOrEmpty(text), None) => {
+                Ok(Action::Interpolate(text, FrameCompletion::RequiredButUnset(self.span())))
+            }
+            (BraceOp::ErrorIfUnsetOrEmpty(text), Some(0)) => {
+                Ok(Action::Interpolate(text, FrameCompletion::RequiredButEmpty(self.span())))
+            }
+            (
+                BraceOp::DefaultIfUnset(_)
+                | BraceOp::DefaultIfUnsetOrEmpty(_)
+                | BraceOp::ErrorIfUnset(_)
+                | BraceOp::ErrorIfUnsetOrEmpty(_),
+                Some(len),
+            ) => Ok(Action::Property(self.name, len)),
         }
-        (BraceOp::ErrorIfUnsetOrEmpty(text), Some(0)) => {
-            Ok(Action::Interpolate(text, FrameCompletion::RequiredButEmpty(span)))
-        }
-        (BraceOp::ErrorIfUnset(_) | BraceOp::ErrorIfUnsetOrEmpty(_), Some(len)) => Ok(
-            Action::Property(name, len),
-        ),
     }
 }
