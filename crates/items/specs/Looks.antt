@@ -55,10 +55,6 @@ pub record Looked : Type 0 where
 abbrev pub step_of : Step → Looked
 step_of p = record { act = act_of (p.next - 1) p.action; next = p.next }
 
-abbrev pub step_told : Result Step PropertyError → Result Looked PropertyError
-step_told (Ok p) = Ok (step_of p)
-step_told (Err e) = Err e
-
 abbrev pub looked_told : Result (Option Step) PropertyError → Result (Option Looked) PropertyError
 looked_told (Ok None) = Ok None
 looked_told (Ok (Some p)) = Ok (Some (step_of p))
@@ -76,15 +72,6 @@ judged (over t) limit r = Err (ExpansionWorkLimitExceeded t limit)
 -- an item at the place i
 abbrev pub looking : WorkBudget → ℕ → Item → Result Looked PropertyError
 looking w i it = judged (works w it.looks) w.limit (with_next (acted it.act) (i + 1 + it.more))
-
--- one is charged before what an item charges
-abbrev pub one : Item → Item
-one it = record { looks = 1 ∷ it.looks; act = it.act; more = it.more }
-
--- `$` at the place i, with the byte c and then cs behind it, once both bytes are charged
-abbrev pub behind_dollar : (List ℕ → Shape) → PropertySyntax → ℕ → ℕ → List ℕ → Item
-behind_dollar sh s i c cs =
-    cond (c == 36) (record { looks = []; act = replace (lit 36 ∷ []); more = 1 }) (cond (c == 123) (braced_item sh s i cs) (bare_item sh s i (c ∷ cs)))
 
 abbrev pub some_looked : Result Looked PropertyError → Result (Option Looked) PropertyError
 some_looked (Ok l) = Ok (Some l)
@@ -109,14 +96,13 @@ Ends n i (Property name len) next = (i < next) × (next ≤ n)
 Ends n i Nothing next = (i < next) × (next ≤ n)
 Ends n i (Interpolate text completion) next = (i + (length text.now + 5) ≤ next) × (next ≤ n)
 
--- What a reference to a name yields, by the length of the name's value: a property is that name with that length, and selected text is shorter than m.
-abbrev pub Yields : List ℕ → Option ℕ → ℕ → Result Action PropertyError → Type 0
-Yields name value m (Ok (Keep b)) = Unit {0}
-Yields name value m (Ok Dollar) = Unit {0}
-Yields name value m (Ok (Property x len)) = (x.now ≡ name) × (Some len ≡ value)
-Yields name value m (Ok Nothing) = Unit {0}
-Yields name value m (Ok (Interpolate text completion)) = length text.now < m
-Yields name value m (Err e) = Unit {0}
+-- What a reference to a name may yield, by the length of the name's value: a property is that name with that length, and selected text is shorter than m.
+abbrev pub Yields : List ℕ → Option ℕ → ℕ → Action → Type 0
+Yields name value m (Keep b) = Unit {0}
+Yields name value m Dollar = Unit {0}
+Yields name value m (Property x len) = (x.now ≡ name) × (Some len ≡ value)
+Yields name value m Nothing = Unit {0}
+Yields name value m (Interpolate text completion) = length text.now < m
 
 abbrev pub Stays : ℕ → ℕ → Result (Option Step) PropertyError → Type 0
 Stays n i (Ok None) = Unit {0}
@@ -130,11 +116,6 @@ Known means Dollar = Unit {0}
 Known means (Property name len) = Some len ≡ option_map length (means name.now)
 Known means Nothing = Unit {0}
 Known means (Interpolate text completion) = Unit {0}
-
--- an action at the place i of a frame of n bytes, with the place behind what it was read from
-abbrev pub Sound : (List ℕ → Option (List ℕ)) → ℕ → ℕ → Result Action PropertyError → ℕ → Type 0
-Sound means n i (Ok a) next = Ends n i a next × Known means a
-Sound means n i (Err e) next = Unit {0}
 
 abbrev pub AskedLook : (List ℕ → Option (List ℕ)) → Result (Option Step) PropertyError → Type 0
 AskedLook means (Ok None) = Unit {0}

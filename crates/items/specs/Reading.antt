@@ -1,5 +1,5 @@
 -- What the code finds at a place of a frame, before anything is asked of the source.
-use Rattle.std.specs.Prelude.{◌≡◌, ℕ, ◌+◌, ◌-◌, ◌≤◌, List, [], ◌∷◌, length, Ok, Err, Result}
+use Rattle.std.specs.Prelude.{◌≡◌, ℕ, ◌+◌, ◌-◌, ◌≤◌, List, [], ◌∷◌, length, Ok, Err, Result, IfOk}
 use Rattle.budget.specs.declared.WorkBudget.{WorkBudget}
 use Rattle.budget.specs.declared.WorkFault.{WorkFault}
 use Rattle.budget.specs.Charges.{paid, spent}
@@ -49,12 +49,8 @@ Held m Escape = 1 ≤ m
 Held m (Braces body) = (1 ≤ m) × Within (m - 1) (Ok body)
 Held m (Bare name) = length name.now ≤ m
 
-abbrev pub HeldAll : ℕ → Result Found WorkFault → Type 0
-HeldAll m (Ok f) = Held m f
-HeldAll m (Err e) = Unit {0}
-
 -- A reading, with m bytes behind the first, finds an item, by any shapes and at any place: it charges what the item charges, and what was found is done as the item says.
 pub record Reads (s : PropertySyntax) (m : ℕ) (w w' : WorkBudget) (it : (List ℕ → Shape) → ℕ → Item) (r : Result Found WorkFault) : Type 0 where
   pub says : (sh : List ℕ → Shape) (i : ℕ) → found_told sh s i m r ≡ paid w (it sh i).looks (done (it sh i))
   pub work : (sh : List ℕ → Shape) (i : ℕ) → w' ≡ spent w (it sh i).looks
-  pub within : HeldAll m r
+  pub within : IfOk r (λ f. Held m f)

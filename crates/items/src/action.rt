@@ -1,4 +1,4 @@
-ghost use Rattle.std.specs.Prelude.{◌≡◌, ℕ, ◌+◌, ◌^◌, ◌<◌, length};
+ghost use Rattle.std.specs.Prelude.{◌≡◌, ℕ, ◌+◌, ◌^◌, ◌<◌, length, IfOk};
 ghost use Rattle.items.specs.Items.{op_act, plain_act, span};
 ghost use Rattle.items.specs.Looks.{Yields, action_told, acted, shape_by};
 ghost use Rattle.references.specs.Braces.{op_of};
@@ -62,7 +62,7 @@ impl<'a> Named<'a> {
     // What a reference without an operator yields.
     pub(crate) fn plain(&self, syntax: PropertySyntax) -> Result<Action<'a>, PropertyError>
         ensures says { (close : ℕ) → action_told close result ≡ acted (plain_act syntax (shape_by self.now.value) self.now.from self.now.name.now) }
-        ensures yields { Yields self.now.name.now self.now.value 0 result }
+        ensures yields { IfOk result (λ a. Yields self.now.name.now self.now.value 0 a) }
     {
         match (self.value, syntax) {
             (Some(len), _) => Ok(Action::Property(self.name, len)),
@@ -80,7 +80,7 @@ impl<'a> Named<'a> {
         syntax: PropertySyntax,
     ) -> Result<Action<'a>, PropertyError>
         ensures says { (close : ℕ) → action_told close result ≡ acted (op_act syntax (shape_by self.now.value) self.now.from self.now.name.now close (op_of op.entry)) }
-        ensures yields { Yields self.now.name.now self.now.value (word_len (op_of op.entry)) result }
+        ensures yields { IfOk result (λ a. Yields self.now.name.now self.now.value (word_len (op_of op.entry)) a) }
     {
         match (op, self.value) {
             (BraceOp::Required, _) => self.plain(syntax),

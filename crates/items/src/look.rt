@@ -1,9 +1,9 @@
-ghost use Rattle.std.specs.Prelude.{◌≡◌, ◌+◌, ◌-◌, ◌^◌, ◌<◌, length, drop};
+ghost use Rattle.std.specs.Prelude.{◌≡◌, ◌+◌, ◌-◌, ◌^◌, ◌<◌, length, drop, IfOk};
 ghost use Rattle.std.specs.Option.{option_map};
 ghost use Rattle.budget.specs.Charges.{spent};
 ghost use Rattle.source.specs.Shapes.{shapes};
 ghost use Rattle.references.specs.declared.error.PropertyError.TheVariants.{InvalidName};
-ghost use Rattle.items.specs.Looks.{AskedLook, Sound, Stays, acted, action_told, charges_at, look, looked_told};
+ghost use Rattle.items.specs.Looks.{AskedLook, Ends, Known, Stays, acted, action_told, charges_at, look, looked_told};
 ghost use Rattle.items.specs.Reading.{Held, found_act, found_more};
 
 use crate::action::{Action, Named, Step};
@@ -60,7 +60,8 @@ impl<'p, S: PropertySource> Place<'p, S> {
     fn action<'a>(&self, found: Found<'a>) -> Result<Action<'a>, PropertyError>
         requires { Held self.now.left found }
         ensures says { action_told (self.now.cursor + found_more found.entry) result ≡ acted (found_act (shapes (S.PropertySource.means self.now.source.now)) self.now.syntax self.now.cursor self.now.left found.entry) }
-        ensures sound { Sound (S.PropertySource.means self.now.source.now) (self.now.cursor + 1 + self.now.left) self.now.cursor result (self.now.cursor + 1 + found_more found.entry) }
+        ensures within { IfOk result (λ a. Ends (self.now.cursor + 1 + self.now.left) self.now.cursor a (self.now.cursor + 1 + found_more found.entry)) }
+        ensures asked { IfOk result (λ a. Known (S.PropertySource.means self.now.source.now) a) }
     {
         match found {
             Found::Byte(byte) => Ok(Action::Keep(byte)),
