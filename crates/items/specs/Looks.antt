@@ -1,5 +1,5 @@
 -- What the code answers for a place of a frame.
-use Rattle.std.specs.Prelude.{◌≡◌, ℕ, zero, suc, ◌+◌, ◌-◌, ◌<◌, ◌≤◌, cond, List, [], ◌∷◌, length, Some, None, Ok, Err, Option, Result, ◌==◌}
+use Rattle.std.specs.Prelude.{◌≡◌, ℕ, zero, suc, ◌+◌, ◌-◌, ◌<◌, ◌≤◌, List, [], ◌∷◌, length, Some, None, Ok, Err, Option, Result}
 use Rattle.std.specs.Option.{option_map}
 use Rattle.budget.specs.declared.WorkBudget.{WorkBudget}
 use Rattle.budget.specs.Charges.{Work, taken, over, works}
@@ -13,7 +13,7 @@ use Rattle.items.specs.declared.action.FrameCompletion.{FrameCompletion}
 use Rattle.items.specs.declared.action.FrameCompletion.TheVariants.{Root, Append, RequiredButUnset, RequiredButEmpty}
 use Rattle.items.specs.declared.action.Step.{Step}
 use Rattle.items.specs.Pieces.{lit, val}
-use Rattle.items.specs.Items.{Act, keep, replace, select, require, refuse, Item, item, bare_item, braced_item}
+use Rattle.items.specs.Items.{Act, keep, replace, select, require, refuse, Item, item}
 
 -- what a name is, by the length of its value
 abbrev pub shape_by : Option ℕ → Shape
