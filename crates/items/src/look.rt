@@ -45,7 +45,7 @@ pub fn look_at<'a, S: PropertySource>(
     }))
 }
 
-// A place of a frame, with this number of bytes behind its first.
+// A place of a frame, with `left` bytes behind the one that stands there.
 #[derive(Drop)]
 struct Place<'p, S: PropertySource> {
     source: &'p S,
