@@ -6,6 +6,7 @@ ghost use Rattle.answers.specs.Refusals.{refusal_number};
 ghost use Rattle.answers.specs.Told.{text_of};
 
 // The answer of a call: the text given stays as it is, or another of that length stands at the front of the output area.
+// No Option of a length: `None` would not say that there is a text, the caller's own.
 #[derive(Clone, Copy, PartialEq, Eq, Debug)]
 pub enum Answer {
     Unchanged,

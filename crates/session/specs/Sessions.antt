@@ -1,6 +1,6 @@
 -- A session: as it is made, what its calls tell, and as they leave it.
-use Rattle.std.specs.Prelude.{ℕ, Bool, List, length, None, Ok, Err, Option, Result}
-use Rattle.answers.specs.Told.{answer_of}
+use Rattle.std.specs.Prelude.{◌≡◌, ℕ, Bool, List, length, None, Ok, Err, Option, Result}
+use Rattle.answers.specs.Told.{answer_of, area_of}
 use Rattle.answers.specs.declared.Answer.{Answer}
 use Rattle.budget.specs.declared.WorkBudget.{WorkBudget}
 use Rattle.names.specs.declared.PropertySyntax.{PropertySyntax}
@@ -10,7 +10,7 @@ use Rattle.source.specs.Shapes.{values}
 use Rattle.expansion.specs.Walks.{Outcome}
 use Rattle.walk.specs.Outcomes.{call_told, call_total, limits, walk_of}
 use Rattle.session.specs.Breaches.{kept_breach}
-use Rattle.session.specs.Calls.{Called, Settings, as_call, if_placed, key_called, value_called}
+use Rattle.session.specs.Calls.{Called, Settings, as_call, heard, if_placed, key_called, value_called}
 use Rattle.session.specs.declared.breach.BudgetBreach.{BudgetBreach}
 use Rattle.session.specs.declared.error.CallError.{CallError}
 use Rattle.session.specs.declared.error.KeyError.{KeyError}
@@ -68,3 +68,10 @@ as_key (Err e) = Err (record { 0 = e })
 abbrev pub as_value : Result Answer CallError → Result Answer ValueError
 as_value (Ok a) = Ok a
 as_value (Err e) = Err (record { 0 = e })
+
+-- A call that told `called` of a text, from the session p, the pair memory y and the output area `before` to q, z and `after`. The breach is not kept yet.
+pub record Leaves {S : Type 0} (p : PropertyInterpolation S) (y : PairMemory) (before text : List ℕ) (called : Called) (r : Result Answer CallError) (q : PropertyInterpolation S) (z : PairMemory) (after : List ℕ) : Type 0 where
+  pub answer : r ≡ answer_of called.0
+  pub session : q ≡ with_total p called.1
+  pub area : after ≡ area_of (length before) called.0
+  pub pairs : z ≡ heard y text called.0

@@ -4,7 +4,7 @@ ghost use Rattle.scopes.specs.Notes.{memory};
 ghost use Rattle.session.specs.Breaches.{kept_breach};
 ghost use Rattle.session.specs.Calls.{call_checked, heard, if_passed};
 ghost use Rattle.session.specs.Shown.{denied};
-ghost use Rattle.session.specs.Sessions.{after_call, as_key, as_value, key_call, passed_call, value_call, with_breach, with_total};
+ghost use Rattle.session.specs.Sessions.{Leaves, after_call, as_key, as_value, key_call, passed_call, value_call, with_breach, with_total};
 
 use crate::checks::check_call;
 use crate::error::{CallError, KeyError, ValueError};
@@ -31,6 +31,8 @@ fn leave_key(text: &[u8], frames: usize, sound: bool, area: &mut [u8]) -> Result
     Ok(Answer::Unchanged)
 }
 
+// The lent memories stay parameters of each call: the caller reads an answer out of the output area between two calls, and the
+// guard of a scope holds the marks, so that a struct of them would be made anew at each call.
 impl<S: PropertySource> PropertyInterpolation<S> {
     // Keeps the first limit that a call passed.
     fn record_breach(&mut self, answer: Result<Answer, CallError>)
@@ -54,10 +56,7 @@ impl<S: PropertySource> PropertyInterpolation<S> {
         bytes: &mut [u8],
         area: &mut [u8],
     ) -> Result<Answer, CallError>
-        ensures answer { result ≡ answer_of (passed_call S.PropertySource.means self.old (memory marks.old records.old bytes.old) (length frames.old) (length area.old) text.now).0 }
-        ensures session { self.new ≡ with_total self.old (passed_call S.PropertySource.means self.old (memory marks.old records.old bytes.old) (length frames.old) (length area.old) text.now).1 }
-        ensures area { area.new ≡ area_of (length area.old) (passed_call S.PropertySource.means self.old (memory marks.old records.old bytes.old) (length frames.old) (length area.old) text.now).0 }
-        ensures pairs { memory marks.new records.new bytes.new ≡ heard (memory marks.old records.old bytes.old) text.now (passed_call S.PropertySource.means self.old (memory marks.old records.old bytes.old) (length frames.old) (length area.old) text.now).0 }
+        ensures { Leaves self.old (memory marks.old records.old bytes.old) area.old text.now (passed_call S.PropertySource.means self.old (memory marks.old records.old bytes.old) (length frames.old) (length area.old) text.now) result self.new (memory marks.new records.new bytes.new) area.new }
     {
         let answer = interpolate_compose_style_with_limits(
             text,
@@ -81,10 +80,7 @@ impl<S: PropertySource> PropertyInterpolation<S> {
         bytes: &mut [u8],
         area: &mut [u8],
     ) -> Result<Answer, CallError>
-        ensures answer { result ≡ answer_of (value_call S.PropertySource.means self.old (memory marks.old records.old bytes.old) (length frames.old) (length area.old) text.now).0 }
-        ensures session { self.new ≡ with_total self.old (value_call S.PropertySource.means self.old (memory marks.old records.old bytes.old) (length frames.old) (length area.old) text.now).1 }
-        ensures area { area.new ≡ area_of (length area.old) (value_call S.PropertySource.means self.old (memory marks.old records.old bytes.old) (length frames.old) (length area.old) text.now).0 }
-        ensures pairs { memory marks.new records.new bytes.new ≡ heard (memory marks.old records.old bytes.old) text.now (value_call S.PropertySource.means self.old (memory marks.old records.old bytes.old) (length frames.old) (length area.old) text.now).0 }
+        ensures { Leaves self.old (memory marks.old records.old bytes.old) area.old text.now (value_call S.PropertySource.means self.old (memory marks.old records.old bytes.old) (length frames.old) (length area.old) text.now) result self.new (memory marks.new records.new bytes.new) area.new }
     {
         if let Err(refusal) = check_call(text, frames.len(), marks.is_sound(records, bytes.len())) {
             return refuse(refusal, area);
@@ -102,10 +98,7 @@ impl<S: PropertySource> PropertyInterpolation<S> {
         bytes: &mut [u8],
         area: &mut [u8],
     ) -> Result<Answer, CallError>
-        ensures answer { result ≡ answer_of (key_call S.PropertySource.means self.old (memory marks.old records.old bytes.old) (length frames.old) (length area.old) text.now).0 }
-        ensures session { self.new ≡ with_total self.old (key_call S.PropertySource.means self.old (memory marks.old records.old bytes.old) (length frames.old) (length area.old) text.now).1 }
-        ensures area { area.new ≡ area_of (length area.old) (key_call S.PropertySource.means self.old (memory marks.old records.old bytes.old) (length frames.old) (length area.old) text.now).0 }
-        ensures pairs { memory marks.new records.new bytes.new ≡ heard (memory marks.old records.old bytes.old) text.now (key_call S.PropertySource.means self.old (memory marks.old records.old bytes.old) (length frames.old) (length area.old) text.now).0 }
+        ensures { Leaves self.old (memory marks.old records.old bytes.old) area.old text.now (key_call S.PropertySource.means self.old (memory marks.old records.old bytes.old) (length frames.old) (length area.old) text.now) result self.new (memory marks.new records.new bytes.new) area.new }
     {
         match self.syntax {
             PropertySyntax::Braced | PropertySyntax::BracedOrBare => {

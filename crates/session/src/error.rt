@@ -102,7 +102,7 @@ impl From<PairsFull> for CallError {
     }
 }
 
-// A key call was refused.
+// A key call was refused. Keys and values have each a type of their own, by which a refusal says what was refused.
 #[derive(Clone, Copy, PartialEq, Eq, Debug)]
 pub struct KeyError(pub CallError);
 

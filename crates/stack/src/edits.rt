@@ -5,6 +5,7 @@ ghost use Rattle.stack.specs.Held.{held, loan, memory, offered};
 
 use crate::Stack;
 
+// Each contract says that the stack is over the same memory as before (`loan`): a struct behind a `&mut` could be given another.
 impl<'a, T: Copy> Stack<'a, T> {
     // Writes over the element at a place; `x` comes back where none stands there.
     pub fn set(&mut self, at: usize, x: T) -> Result<(), T>
