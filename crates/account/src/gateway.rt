@@ -50,13 +50,13 @@ impl<'a> Gateway<'a> {
         self.session.breach()
     }
 
-    // What a call told. The session's total was `before`.
-    fn called<'t>(
+    // What a call told. The session's total was `before`; none for a redaction, which does no work that is counted.
+    fn reply<'t>(
         &self,
         call: &'static str,
         text: &'t [u8],
         answer: Result<Answer, CallError>,
-        before: usize,
+        before: Option<usize>,
     ) -> Reply<'t> {
         let total = self.session.total_work();
         Reply {
@@ -64,8 +64,8 @@ impl<'a> Gateway<'a> {
             text,
             answer,
             area: self.area,
-            work: Some(total.saturating_sub(before)),
-            total: Some(total),
+            work: before.map(|n| total.saturating_sub(n)),
+            total: before.map(|_| total),
         }
     }
 
@@ -82,7 +82,7 @@ impl<'a> Gateway<'a> {
                 &mut self.area,
             )
             .map_err(|error| error.0);
-        self.called("key", text, answer, before)
+        self.reply("key", text, answer, Some(before))
     }
 
     pub(crate) fn value<'t>(&mut self, marks: &mut RedactionMarks, text: &'t [u8]) -> Reply<'t> {
@@ -109,29 +109,12 @@ impl<'a> Gateway<'a> {
                 &mut self.area,
             )
             .map_err(|error| error.0);
-        self.called("value", text, answer, before)
-    }
-
-    // What a redaction told; it does no work that is counted.
-    fn shown<'t>(
-        &self,
-        call: &'static str,
-        text: &'t [u8],
-        answer: Result<Answer, CallError>,
-    ) -> Reply<'t> {
-        Reply {
-            call,
-            text,
-            answer,
-            area: self.area,
-            work: None,
-            total: None,
-        }
+        self.reply("value", text, answer, Some(before))
     }
 
     pub(crate) fn show_message<'t>(&mut self, marks: &RedactionMarks, text: &'t [u8]) -> Reply<'t> {
         let answer = redact_custom_message(text, marks, &self.records, &self.bytes, &mut self.area);
-        self.shown("message", text, answer)
+        self.reply("message", text, answer, None)
     }
 
     pub(crate) fn show_value<'t>(&mut self, marks: &RedactionMarks, text: &'t [u8]) -> Reply<'t> {
@@ -143,7 +126,7 @@ impl<'a> Gateway<'a> {
             &self.bytes,
             &mut self.area,
         );
-        self.shown("value", text, answer)
+        self.reply("value", text, answer, None)
     }
 
     pub(crate) fn show_identifier<'t>(
@@ -159,6 +142,6 @@ impl<'a> Gateway<'a> {
             &self.bytes,
             &mut self.area,
         );
-        self.shown("identifier", text, answer)
+        self.reply("identifier", text, answer, None)
     }
 }
