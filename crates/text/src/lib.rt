@@ -1,23 +1,21 @@
 // Texts: bytes that are well-formed UTF-8.
 #![tactic(auto)]
 
-ghost use Rattle.std.specs.Prelude.{◌≡◌, IsUtf8, Decides};
+ghost use Rattle.std.specs.Prelude.{◌≡◌, ◌↔◌, IsTrue, IsUtf8};
+ghost use Rattle.std.specs.Str.{valid_up_to};
+ghost use Rattle.text.specs.declared.TextError.TheVariants.{NotUtf8};
 ghost use Rattle.text.specs.Refusals.{refusal_number};
 ghost use Rattle.text.specs.Texts.{text_verdict, well_formed};
 
-mod utf8;
-
-use utf8::check_utf8;
+use std::str::Utf8Error;
 
 // Whether the bytes are well-formed UTF-8.
+#[tactic(auto, using(crate::proofs::TextLaws::text_laws))]
 pub fn is_utf8(bytes: &[u8]) -> bool
     ensures value { result ≡ well_formed bytes.now }
-    ensures tells { Decides result (IsUtf8 bytes.now) }
+    ensures tells { IsTrue result ↔ IsUtf8 bytes.now }
 {
-    match check_utf8(bytes) {
-        Ok(()) => true,
-        Err(_) => false,
-    }
+    std::str::from_utf8(bytes).is_ok()
 }
 
 // The longest text that a call takes.
@@ -44,15 +42,23 @@ impl TextError {
     }
 }
 
+// The refusal of the library, by how far it read.
+impl From<Utf8Error> for TextError {
+    ghost from_gives = { λ e r. r ≡ NotUtf8 (valid_up_to e) };
+
+    fn from(error: Utf8Error) -> Self {
+        TextError::NotUtf8(error.valid_up_to())
+    }
+}
+
 // Whether the bytes are a text: at most 8192 bytes of well-formed UTF-8.
+#[tactic(auto, using(crate::proofs::TextLaws::text_laws))]
 pub fn check_text(bytes: &[u8]) -> Result<(), TextError>
     ensures { result ≡ text_verdict bytes.now }
 {
     if bytes.len() > TEXT_MAX {
         return Err(TextError::TooLong);
     }
-    match check_utf8(bytes) {
-        Ok(()) => Ok(()),
-        Err(valid) => Err(TextError::NotUtf8(valid)),
-    }
+    std::str::from_utf8(bytes)?;
+    Ok(())
 }
