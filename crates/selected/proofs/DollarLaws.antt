@@ -1,31 +1,26 @@
--- The search for `$`, byte by byte and block by block.
-use Rattle.std.proofs.Common.{◌≡◌, ℕ, zero, suc, ◌+◌, ◌-◌, ◌<◌, ◌≤◌, cond, eqb, List, length, get_or, take, drop, Some, sym, ap, ◌∙◌, arith}
-use Rattle.std.proofs.lemmas.List.{at_drop_more, get_or-drop, get_or-take, length-drop, length-take-le}
-use Rattle.std.proofs.lemmas.Bool.{cond-false, cond-true, eq-eqb, ne_eqb}
+-- The first place that passes the library's test for `$` is the first `$`.
+use Rattle.std.proofs.Common.{◌≡◌, ℕ, zero, suc, ◌+◌, ◌<◌, List, [], ◌∷◌, length, Option, Some, None, refl, arith}
+use Rattle.std.proofs.lemmas.Bool.Decides.{nat_tests}
 use Rattle.expansion.specs.Events.{first_dollar}
-use Rattle.selected.specs.Dollars.{Passed}
+use Rattle.memchr.specs.Find.{IsFirstByte, Passes, is_byte}
 
--- the byte at the place i, and those behind it
-step : (s : List ℕ) (i : ℕ) → i < length s → first_dollar i (drop i s) ≡ cond (eqb (get_or s i 0) 36) (Some i) (first_dollar (i + 1) (drop (i + 1) s))
-step s i h = at_drop_more (first_dollar i) s i 0 h
+-- Here i is the place of the first byte. None of the bytes is a `$`.
+none_there : (i : ℕ) (bs : List ℕ) → ((k : ℕ) → k < length bs → Passes (is_byte 36) bs k → ⊥) → first_dollar i bs ≡ None
+none_there i [] h = refl
+none_there i (b ∷ bs) h =
+    let here = h 0 in
+    let behind = none_there (i + 1) bs (λ k l. h (suc k) (omega arith)) in
+    grind (arith, nat_tests)
 
-pub found_here : (s : List ℕ) (i : ℕ) → i < length s → Passed s i → get_or s i 0 ≡ 36 → Some i ≡ first_dollar 0 s
-found_here s i h p e = sym (p ∙ step s i h ∙ cond-true _ _ _ (eq-eqb _ 36 e))
+-- byte k is a `$`, and none before it
+first_there : (i : ℕ) (bs : List ℕ) (k n : ℕ) → n ≡ i + k → k < length bs → ((j : ℕ) → j < k → Passes (is_byte 36) bs j → ⊥) → Passes (is_byte 36) bs k → first_dollar i bs ≡ Some n
+first_there i [] k n e l h p = absurd (omega arith)
+first_there i (b ∷ bs) zero n e l h p = grind (arith, nat_tests)
+first_there i (b ∷ bs) (suc k) n e l h p =
+    let here = h 0 (omega arith) in
+    let behind = first_there (i + 1) bs k n (omega arith) (omega arith) (λ j m. h (suc j) (omega arith)) p in
+    grind (arith, nat_tests)
 
-pub passed_one : (s : List ℕ) (i : ℕ) → i < length s → Passed s i → (get_or s i 0 ≡ 36 → ⊥) → Passed s (i + 1)
-passed_one s i h p e = p ∙ step s i h ∙ cond-false _ _ _ (ne_eqb _ 36 e)
-
-passed_more : (s : List ℕ) (i n : ℕ) → i + n ≤ length s → Passed s i → ((k : ℕ) → k < n → get_or s (i + k) 0 ≡ 36 → ⊥) → Passed s (i + n)
-passed_more s i zero h p e = let z : i + zero ≡ i = omega arith in p ∙ ap (λ k. first_dollar k (drop k s)) (sym z)
-passed_more s i (suc n) h p e =
-    let before : Passed s (i + n) = passed_more s i n (omega arith) p (λ k l. e k (omega arith)) in
-    let next : i + n + 1 ≡ i + suc n = omega arith in
-    passed_one s (i + n) (omega arith) before (e n (omega arith)) ∙ ap (λ k. first_dollar k (drop k s)) next
-
--- a block, as `&s[i..i + n]` gives it
-pub passed_block : (s : List ℕ) (i n m : ℕ) → i ≤ length s → n ≤ length s - i → m ≡ n → Passed s i
-    → ((k : ℕ) → k < length (take m (drop i s)) → get_or (take m (drop i s)) k 0 ≡ 36 → ⊥) → Passed s (i + n)
-passed_block s i n m w h e p b =
-    let fits : m ≤ length (drop i s) = omega (arith, length-drop i s) in
-    passed_more s i n (omega arith) p (λ k l q.
-    b k (omega (arith, length-take-le m (drop i s) fits)) (get_or-take m (drop i s) k 0 (omega arith) ∙ get_or-drop i s k 0 ∙ q))
+pub first_is : (bs : List ℕ) (r : Option ℕ) → IsFirstByte (is_byte 36) bs r → first_dollar 0 bs ≡ r
+first_is bs None h = none_there 0 bs (λ k l. h k (omega arith) l)
+first_is bs (Some k) h = first_there 0 bs k k (omega arith) h.0.high (λ j. h.0.before j (omega arith)) h.1

@@ -1,1 +1,2 @@
+mod SelectedLaws
 mod DollarLaws

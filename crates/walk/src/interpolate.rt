@@ -17,7 +17,7 @@ use budget::WorkBudget;
 use names::PropertySyntax;
 use output::Output;
 use references::error::PropertyError;
-use selected::dollar::find_dollar;
+use selected::find_dollar;
 use source::source::PropertySource;
 use stack::Stack;
 use text::TEXT_MAX;
