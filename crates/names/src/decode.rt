@@ -9,11 +9,7 @@ fn bits(text: &[u8], at: usize) -> u32
     ensures value { result ≡ slice_index text.now at - 128 }
     ensures few { result < 128 }
 {
-    if at < text.len() {
-        (text[at] as u32).saturating_sub(128)
-    } else {
-        0
-    }
+    text.get(at).map_or(0, |&byte| u32::from(byte).saturating_sub(128))
 }
 
 // The number that a character of several bytes is written as.
@@ -49,19 +45,14 @@ fn width(lead: u8) -> usize
 fn letter(code: u32) -> char
     ensures { result ≡ letter_of code }
 {
-    match char::from_u32(code) {
-        Some(ch) => ch,
-        None => '\u{fffd}',
-    }
+    char::from_u32(code).unwrap_or(char::REPLACEMENT_CHARACTER)
 }
 
 // The first character with its width.
 pub fn first_char(text: &[u8]) -> Option<(char, usize)>
     ensures { result ≡ glyph text.now }
 {
-    let Some(&lead) = text.first() else {
-        return None;
-    };
+    let &lead = text.first()?;
     if lead < 128 {
         return Some((lead as char, 1));
     }
