@@ -9,7 +9,8 @@ fn bits(text: &[u8], at: usize) -> u32
     ensures value { result ≡ slice_index text.now at - 128 }
     ensures few { result < 128 }
 {
-    text.get(at).map_or(0, |&byte| u32::from(byte).saturating_sub(128))
+    text.get(at)
+        .map_or(0, |&byte| u32::from(byte).saturating_sub(128))
 }
 
 // The number that a character of several bytes is written as.

@@ -27,10 +27,7 @@ fn is_var_start(ch: char, syntax: PropertySyntax) -> bool
 {
     match ch {
         '_' | 'a'..='z' | 'A'..='Z' => true,
-        '\u{212a}' | '\u{17f}' => match syntax {
-            PropertySyntax::DockerCompose => true,
-            PropertySyntax::Braced | PropertySyntax::BracedOrBare => false,
-        },
+        '\u{212a}' | '\u{17f}' => syntax == PropertySyntax::DockerCompose,
         _ => false,
     }
 }
@@ -61,10 +58,7 @@ pub fn begins_name(text: &[u8], syntax: PropertySyntax) -> bool
     ensures says { result ≡ begins_name syntax text.now }
     ensures text { IsUtf8 text.now → result ≡ starts_text syntax (chars text.now) }
 {
-    match first_char(text) {
-        Some((ch, _)) => is_var_start(ch, syntax),
-        None => false,
-    }
+    first_char(text).is_some_and(|(ch, _)| is_var_start(ch, syntax))
 }
 
 // The first `end` bytes with the rest; none where `end` is 0.
@@ -95,7 +89,7 @@ pub fn parse_name<'a>(
     while let Some((ch, width)) = first_char(&input[end..]) {
         work.charge(width)?;
         if !extends_name(ch, end, syntax) {
-            return Ok(split_name(input, end));
+            break;
         }
         end += width;
     }
