@@ -1,6 +1,5 @@
 -- What holds of a close in every syntax.
-use Rattle.std.proofs.Common.{◌≡◌, ℕ, ◌<◌, List, ◌∷◌, ◌++◌, length, get_or, IfSome, IfOk, Some, None, Option, Result, sym, refl, ap, ◌∙◌, subst, append_assoc, arith, length-append}
-use Rattle.std.proofs.lemmas.List.{get_or_at}
+use Rattle.std.proofs.Common.{◌≡◌, ℕ, ◌<◌, List, ◌∷◌, ◌++◌, length, IfSome, IfOk, Some, None, Option, Result, sym, refl, ap, ◌∙◌, subst, append_assoc, arith, length-append}
 use Rattle.budget.specs.declared.WorkBudget.{WorkBudget}
 use Rattle.budget.specs.declared.WorkFault.{WorkFault}
 use Rattle.budget.specs.Charges.{Work, taken, over, ending, paid, works}
@@ -51,16 +50,11 @@ split_of DockerCompose bs k c = compose_split bs k c
 pub close_split : (s : PropertySyntax) (bs : List ℕ) (k : ℕ) → close s bs ≡ Some k → Split bs k
 close_split s bs k e = split_of s bs k (sound s bs k e)
 
--- a close is within the bytes, and `}` stands there
+-- a close is within the bytes
 pub close_within : (s : PropertySyntax) (bs : List ℕ) (k : ℕ) → close s bs ≡ Some k → k < length bs
 close_within s bs k e =
     let p = close_split s bs k e in
     omega (arith, ap length p.whole, length-append p.front (125 ∷ p.behind), p.place)
-
-pub close_brace : (s : PropertySyntax) (bs : List ℕ) (k : ℕ) → close s bs ≡ Some k → get_or bs k 0 ≡ 125
-close_brace s bs k e =
-    let p = close_split s bs k e in
-    ap (λ q. get_or q k 0) p.whole ∙ get_or_at p.front 125 p.behind 0 k (sym p.place)
 
 -- the same of an answer
 within_cases : (n : ℕ) (o : Option ℕ) → ((k : ℕ) → o ≡ Some k → k < n) → IfSome o (λ k. k < n)

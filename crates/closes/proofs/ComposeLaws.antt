@@ -1,16 +1,16 @@
 -- The search for the close in an operator's text as far as it has come, and the search as a whole.
-use Rattle.std.proofs.Common.{◌≡◌, ℕ, ◌+◌, ◌-◌, ◌<◌, ◌≤◌, Bool, true, false, List, [], ◌∷◌, length, get_or, take, drop, Some, None, Option, Result, sym, ap, ◌∙◌, arith}
+use Rattle.std.proofs.Common.{◌≡◌, ℕ, ◌+◌, ◌-◌, ◌<◌, ◌≤◌, Bool, true, false, List, [], ◌∷◌, length, get_or, take, drop, Some, None, Ok, Option, Result, sym, ap, ◌∙◌, arith}
 use Rattle.std.proofs.lemmas.List.{take_rest}
-use Rattle.std.proofs.lemmas.Bool.{cond-true, cond-false, eq-eqb, ne_eqb}
+use Rattle.std.proofs.lemmas.Bool.{cond-true}
 use Rattle.std.proofs.lemmas.Bool.Decides.{nat_tests}
 use Rattle.budget.specs.declared.WorkBudget.{WorkBudget}
 use Rattle.budget.specs.declared.WorkFault.{WorkFault}
 use Rattle.budget.specs.Charges.{paid, spent}
-use Rattle.budget.proofs.Calls.{Paid, Went, left_all, left_at, left_more, left_last}
+use Rattle.budget.proofs.Calls.{Paid, Went, went, left_all, left_at, left_more, left_last}
 use Rattle.names.specs.declared.PropertySyntax.TheVariants.{DockerCompose}
 use Rattle.names.specs.Reads.{name_at, name_looks}
 use Rattle.closes.specs.Compose.{Levels, close_after, close_behind, compose_close, compose_looks, in_text, looks_after, looks_behind, one_level, seen, text_close, text_looks, text_turn}
-use Rattle.closes.specs.Fronts.{begins, op_len}
+use Rattle.closes.specs.Fronts.{begins, op_found}
 use Rattle.closes.specs.Search.{ends, goes}
 use Rattle.closes.proofs.SearchLaws.{Scan, scan_goes}
 
@@ -64,28 +64,24 @@ module _ {n : ℕ} {skip : Bool} {last : Option ℕ} {i b : ℕ} {o : Option ℕ
   other h u v s x y = let f = e.is in record { so = grind (arith, nat_tests); low = omega arith; high = omega arith }
 
 -- a name read, then what follows it
-pub composed : {w w₁ w₂ : WorkBudget} {r : Result (Option ℕ) WorkFault} (bs name rest js : List ℕ) (y : Option ℕ)
-    → Went w w₁ (name_looks DockerCompose bs) → Some (name, rest) ≡ name_at DockerCompose bs
+pub composed : {w w₁ w₂ : WorkBudget} {o : Option (List ℕ × List ℕ)} {r : Result (Option ℕ) WorkFault} (bs name rest js : List ℕ) (y : Option ℕ)
+    → w₁ ≡ spent w (name_looks DockerCompose bs) → Ok o ≡ paid w (name_looks DockerCompose bs) (name_at DockerCompose bs) → o ≡ Some (name, rest)
     → (js ≡ looks_behind (length name) rest) × (y ≡ close_behind (length name) rest)
     → r ≡ paid w₁ js y → w₂ ≡ spent w₁ js → Paid w w₂ (compose_looks bs) (compose_close bs) r
-composed {w} {w₁} bs name rest js y p n c e h =
-    let left = left_more (looks_after (name_at DockerCompose bs)) (left_all w (compose_looks bs)) p in
+composed {w} {w₁} bs name rest js y work says some c e h =
+    let p = went w w₁ (name_looks DockerCompose bs) work (name_at DockerCompose bs) says in
+    let left = left_more (looks_after (name_at DockerCompose bs)) (left_all w (compose_looks bs)) p.0 in
+    let n = sym some ∙ p.1 in
     left_last js (compose_close bs) (left_at left (sym (c.0 ∙ ap looks_after n))) (e ∙ ap (paid w₁ js) (c.1 ∙ ap close_after n)) h
 
 -- what follows it, by the tests of the code
 pub at_brace : (n : ℕ) (rest : List ℕ) → true ≡ begins (125 ∷ []) rest → ([] ≡ looks_behind n rest) × (Some n ≡ close_behind n rest)
 at_brace n rest t = (sym (cond-true _ _ _ (sym t)), sym (cond-true _ _ _ (sym t)))
 
-module _ (n op : ℕ) (rest : List ℕ) (e : op ≡ op_len rest) (f : false ≡ begins (125 ∷ []) rest) where
-  pub no_operator : op ≡ 0 → ([] ≡ looks_behind n rest) × (None ≡ close_behind n rest)
-  no_operator z =
-      let t = eq-eqb (op_len rest) 0 (sym e ∙ z) in
-      (sym (cond-false _ _ _ (sym f) ∙ cond-true _ _ _ t), sym (cond-false _ _ _ (sym f) ∙ cond-true _ _ _ t))
+module _ (n : ℕ) (rest : List ℕ) (f : false ≡ begins (125 ∷ []) rest) where
+  pub no_operator : None ≡ op_found rest → ([] ≡ looks_behind n rest) × (None ≡ close_behind n rest)
+  no_operator e = (grind (arith, nat_tests), grind (arith, nat_tests))
 
-  pub at_operator : (op ≡ 0 → ⊥) → (text_looks (n + op) (take (length rest - op) (drop op rest)) ≡ looks_behind n rest)
+  pub at_operator : {op : ℕ} → Some op ≡ op_found rest → (text_looks (n + op) (take (length rest - op) (drop op rest)) ≡ looks_behind n rest)
       × (text_close (n + op) (take (length rest - op) (drop op rest)) ≡ close_behind n rest)
-  at_operator z =
-      let t = ne_eqb (op_len rest) 0 (λ h. z (e ∙ h)) in (
-        ap (text_looks (n + op)) (take_rest rest op) ∙ ap (λ k. text_looks (n + k) (drop k rest)) e ∙ sym (cond-false _ _ _ (sym f) ∙ cond-false _ _ _ t),
-        ap (text_close (n + op)) (take_rest rest op) ∙ ap (λ k. text_close (n + k) (drop k rest)) e ∙ sym (cond-false _ _ _ (sym f) ∙ cond-false _ _ _ t),
-      )
+  at_operator {op} e = let whole = take_rest rest op in (grind (arith, nat_tests), grind (arith, nat_tests))

@@ -2,7 +2,7 @@ ghost use Rattle.std.specs.Prelude.{◌≡◌, ◌+◌, ◌^◌, ◌<◌, length
 ghost use Rattle.budget.specs.Charges.{paid, spent};
 ghost use Rattle.closes.specs.Compose.{compose_close, compose_looks, text_close, text_looks};
 
-use crate::fronts::{has_front, operator_len};
+use crate::fronts::operator_len;
 use budget::{WorkBudget, WorkFault};
 use names::{PropertySyntax, parse_name};
 
@@ -63,12 +63,11 @@ pub fn find_compose_braced_reference_close(
     let Some((name, rest)) = parse_name(body, PropertySyntax::DockerCompose, work)? else {
         return Ok(None);
     };
-    if has_front(rest, b"}") {
+    if rest.starts_with(b"}") {
         return Ok(Some(name.len()));
     }
-    let op = operator_len(rest);
-    if op == 0 {
+    let Some(op) = operator_len(rest) else {
         return Ok(None);
-    }
+    };
     find_text_close(&rest[op..], name.len() + op, work)
 }

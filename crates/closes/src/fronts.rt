@@ -1,25 +1,18 @@
 // What bytes begin with.
 
 ghost use Rattle.std.specs.Prelude.{◌≡◌};
-ghost use Rattle.closes.specs.Fronts.{begins, op_len, opens};
+ghost use Rattle.closes.specs.Fronts.{op_found, opens};
 
-// Whether `text` begins with the bytes of `front`.
-pub(crate) fn has_front(text: &[u8], front: &[u8]) -> bool
-    ensures { result ≡ begins front.now text.now }
+// The length of the operator at the front, where there is one.
+pub(crate) fn operator_len(rest: &[u8]) -> Option<usize>
+    ensures { result ≡ op_found rest.now }
 {
-    text.starts_with(front)
-}
-
-// The length of the operator at the front; 0 where there is none.
-pub(crate) fn operator_len(rest: &[u8]) -> usize
-    ensures { result ≡ op_len rest.now }
-{
-    if has_front(rest, b":-") || has_front(rest, b":+") || has_front(rest, b":?") {
-        2
-    } else if has_front(rest, b"-") || has_front(rest, b"+") || has_front(rest, b"?") {
-        1
+    if rest.starts_with(b":-") || rest.starts_with(b":+") || rest.starts_with(b":?") {
+        Some(2)
+    } else if rest.starts_with(b"-") || rest.starts_with(b"+") || rest.starts_with(b"?") {
+        Some(1)
     } else {
-        0
+        None
     }
 }
 
@@ -27,5 +20,5 @@ pub(crate) fn operator_len(rest: &[u8]) -> usize
 pub(crate) fn opens_inner(byte: u8, rest: &[u8]) -> bool
     ensures { result ≡ opens byte rest.now }
 {
-    byte == b'$' && has_front(rest, b"{")
+    byte == b'$' && rest.starts_with(b"{")
 }

@@ -1,6 +1,6 @@
-use Rattle.std.proofs.Common.{[], None, Err, sym, refl, ap, ◌∙◌}
+use Rattle.std.proofs.Common.{[], None, Err, refl, ap, ◌∙◌}
 use Rattle.std.proofs.lemmas.Result.{err_from_is_err_and}
-use Rattle.budget.proofs.Calls.{broke, left_all, left_over, went}
+use Rattle.budget.proofs.Calls.{broke, left_all, left_over}
 use Rattle.names.specs.declared.PropertySyntax.TheVariants.{DockerCompose}
 use Rattle.names.specs.Reads.{both, name_at, name_looks}
 use Rattle.closes.specs.Compose.{compose_close, compose_looks, looks_after}
@@ -16,28 +16,23 @@ returns-in_err-name c =
     let o = left_over (looks_after (name_at DockerCompose bs)) (compose_close bs) (left_all c.args.work.now (compose_looks bs)) b in
     record { says = p.1 ∙ ap Err p.2 ∙ o.says; work = o.work }
 
-pub returns-then-has_front : goal.returns-then-has_front
-returns-then-has_front c =
+pub returns-then-starts_with : goal.returns-then-starts_with
+returns-then-starts_with c =
     let e = c.in_ok-name.ensures in
-    let p = went _ _ _ e.work (name_at DockerCompose c.args.body.now) e.says in
-    let some = sym (ap both c.in-Some.is) ∙ p.1 in
-    let o = composed _ c.in-Some.name.now c.in-Some.rest.now [] _ p.0 some (at_brace _ c.in-Some.rest.now c.if-has_front.ensures) refl refl in
+    let behind = at_brace _ c.in-Some.rest.now c.if-starts_with.ensures.value in
+    let o = composed _ c.in-Some.name.now _ [] _ e.work e.says (ap both c.in-Some.is) behind refl refl in
     record { says = o.says; work = o.work }
 
-pub returns-then-op-eq0 : goal.returns-then-op-eq0
-returns-then-op-eq0 c =
+pub returns-in_default-operator_len : goal.returns-in_default-operator_len
+returns-in_default-operator_len c =
     let e = c.in_ok-name.ensures in
-    let p = went _ _ _ e.work (name_at DockerCompose c.args.body.now) e.says in
-    let some = sym (ap both c.in-Some.is) ∙ p.1 in
-    let o = composed _ c.in-Some.name.now c.in-Some.rest.now [] None p.0 some
-    (no_operator _ _ c.in-Some.rest.now c.operator_len-op.ensures c.if-has_front.ensures c.if-op-eq0.true) refl refl in
+    let behind = no_operator _ c.in-Some.rest.now c.if-starts_with.ensures.value c.in_default-operator_len.ensures in
+    let o = composed _ c.in-Some.name.now _ [] None e.work e.says (ap both c.in-Some.is) behind refl refl in
     record { says = o.says; work = o.work }
 
 pub returns : goal.returns
 returns c =
     let e = c.in_ok-name.ensures in
-    let p = went _ _ _ e.work (name_at DockerCompose c.args.body.now) e.says in
-    let some = sym (ap both c.in-Some.is) ∙ p.1 in
-    let o = composed _ c.in-Some.name.now c.in-Some.rest.now _ _ p.0 some
-    (at_operator _ _ c.in-Some.rest.now c.operator_len-op.ensures c.if-has_front.ensures c.if-op-eq0.false) c.find_text_close.ensures.says c.find_text_close.ensures.work in
+    let behind = at_operator _ c.in-Some.rest.now c.if-starts_with.ensures.value c.in-Some-operator_len.ensures in
+    let o = composed _ c.in-Some.name.now _ _ _ e.work e.says (ap both c.in-Some.is) behind c.find_text_close.ensures.says c.find_text_close.ensures.work in
     record { says = o.says; work = o.work }
