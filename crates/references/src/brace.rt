@@ -8,8 +8,8 @@ use budget::{WorkBudget, WorkFault};
 use closes::find_braced_reference_close;
 use names::{PropertySyntax, parse_name};
 
-// What stands behind a `${`.
-#[derive(Clone, Copy)]
+// What stands behind a `${`. These are three ways, so it is no Option.
+#[derive(Clone, Copy, PartialEq, Eq, Debug)]
 pub enum BraceBody<'a> {
     // There is no close.
     Unclosed,

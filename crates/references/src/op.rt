@@ -4,7 +4,7 @@ ghost use Rattle.references.specs.Braces.{op_of};
 ghost use Rattle.references.specs.Operators.{op_at};
 
 // The forms of a reference in braces, with the default, replacement or error text.
-#[derive(Clone, Copy)]
+#[derive(Clone, Copy, PartialEq, Eq, Debug)]
 pub enum BraceOp<'a> {
     // `${NAME}`
     Required,
@@ -23,7 +23,7 @@ pub enum BraceOp<'a> {
 }
 
 // A reference in braces: its name and its form.
-#[derive(Clone, Copy)]
+#[derive(Clone, Copy, PartialEq, Eq, Debug)]
 pub struct BraceRef<'a> {
     pub name: &'a [u8],
     pub op: BraceOp<'a>,
