@@ -20,6 +20,7 @@ pub struct WorkBudget {
 
 impl WorkBudget {
     // Adds `k` to the total, which stops at the largest number; refused where it is then above the limit.
+    #[tactic(auto, using(crate::proofs::ChargeLaws::charge_laws))]
     pub fn charge(&mut self, k: usize) -> Result<(), WorkFault>
         ensures says { result ≡ paid self.old (k ∷ []) tt }
         ensures work { self.new ≡ spent self.old (k ∷ []) }
