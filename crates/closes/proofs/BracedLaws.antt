@@ -1,7 +1,7 @@
 -- The search for the close in Braced as far as it has come.
 use Rattle.std.proofs.Common.{◌≡◌, ℕ, ◌+◌, ◌-◌, ◌<◌, ◌≤◌, true, false, List, [], ◌∷◌, length, get_or, take, drop, Some, sym, ap, ◌∙◌, arith}
 use Rattle.std.proofs.lemmas.List.{take_rest}
-use Rattle.std.proofs.lemmas.Bool.{cond-true, cond-false, eq-eqb, ne_eqb}
+use Rattle.std.proofs.lemmas.Bool.Decides.{nat_tests}
 use Rattle.budget.specs.declared.WorkBudget.{WorkBudget}
 use Rattle.budget.proofs.Calls.{Went}
 use Rattle.closes.specs.Braced.{braced, braced_turn}
@@ -24,17 +24,13 @@ balancing_on r h p e = record { scan = scan_goes r.scan h p e.so; high = omega (
 -- what a byte does, by the tests of the code; `&body[i + 1..]` is read as the `take`
 module _ (bs : List ℕ) (n i : ℕ) where
   pub closing : get_or bs i 0 ≡ 125 → n ≡ 0 → braced_turn n (0 + i) (get_or bs i 0) (drop (i + 1) bs) ≡ ends (Some i)
-  closing h z = cond-true _ _ _ (eq-eqb (get_or bs i 0) 125 h) ∙ cond-true _ _ _ (eq-eqb n 0 z) ∙ ap (λ j. ends (Some j)) (omega arith)
+  closing h z = grind (arith, nat_tests)
 
   pub less : {m : ℕ} → get_or bs i 0 ≡ 125 → (n ≡ 0 → ⊥) → m ≡ n - 1 → Steps bs n i m
-  less h z e = record { so = cond-true _ _ _ (eq-eqb (get_or bs i 0) 125 h) ∙ cond-false _ _ _ (ne_eqb n 0 z) ∙ ap goes (sym e); high = omega arith }
+  less h z e = record { so = grind (arith, nat_tests); high = omega arith }
 
   pub more : {m : ℕ} → (get_or bs i 0 ≡ 125 → ⊥) → true ≡ opens (get_or bs i 0) (take (length bs - (i + 1)) (drop (i + 1) bs)) → m ≡ n + 1 → Steps bs n i m
-  more h o e =
-      let t = sym (o ∙ ap (opens (get_or bs i 0)) (take_rest bs (i + 1))) in
-      record { so = cond-false _ _ _ (ne_eqb (get_or bs i 0) 125 h) ∙ cond-true _ _ _ t ∙ ap goes (sym e); high = omega arith }
+  more h o e = let t = sym (o ∙ ap (opens (get_or bs i 0)) (take_rest bs (i + 1))) in record { so = grind (arith, nat_tests); high = omega arith }
 
   pub same : {m : ℕ} → (get_or bs i 0 ≡ 125 → ⊥) → false ≡ opens (get_or bs i 0) (take (length bs - (i + 1)) (drop (i + 1) bs)) → m ≡ n → Steps bs n i m
-  same h o e =
-      let t = sym (o ∙ ap (opens (get_or bs i 0)) (take_rest bs (i + 1))) in
-      record { so = cond-false _ _ _ (ne_eqb (get_or bs i 0) 125 h) ∙ cond-false _ _ _ t ∙ ap goes (sym e); high = omega arith }
+  same h o e = let t = sym (o ∙ ap (opens (get_or bs i 0)) (take_rest bs (i + 1))) in record { so = grind (arith, nat_tests); high = omega arith }

@@ -1,6 +1,6 @@
 -- A reference in braces, read step by step: the close, the name, the operator.
-use Rattle.std.proofs.Common.{◌≡◌, ℕ, ◌-◌, ◌<◌, ◌≤◌, Bool, true, false, cond, eqb, List, [], ◌∷◌, ◌++◌, length, take, drop, IfSome, Some, None, Ok, Err, Option, sym, refl, ap, ◌∙◌, subst, append-nil, arith, length-drop}
-use Rattle.std.proofs.lemmas.Bool.{eqb-false}
+use Rattle.std.proofs.Common.{◌≡◌, ℕ, ◌<◌, ◌≤◌, List, [], ◌++◌, length, take, IfSome, Some, Ok, Err, Option, sym, ap, ◌∙◌, subst, append-nil, arith, length-drop}
+use Rattle.std.proofs.lemmas.Bool.Decides.{nat_tests}
 use Rattle.budget.specs.declared.WorkBudget.{WorkBudget}
 use Rattle.budget.specs.declared.WorkFault.{WorkFault}
 use Rattle.budget.specs.Charges.{paid, spent}
@@ -8,9 +8,8 @@ use Rattle.budget.proofs.Calls.{Left, Paid, Went, broke, went, left_all, left_at
 use Rattle.names.specs.declared.PropertySyntax.{PropertySyntax}
 use Rattle.names.specs.Reads.{name_at, name_looks}
 use Rattle.closes.specs.Closes.{close, close_looks}
-use Rattle.closes.specs.Fronts.{begins}
 use Rattle.references.specs.Braces.{Brace, brace, brace_looks, name_charges, with_close, with_name}
-use Rattle.references.specs.Operators.{Op, Operator, plain, operated, default, alternate, error, op_at}
+use Rattle.references.specs.Operators.{Op, op_at}
 use Rattle.references.specs.Reads.{word_len}
 
 module _ (w₀ : WorkBudget) {w : WorkBudget} (s : PropertySyntax) (bs : List ℕ) (work : w ≡ spent w₀ (close_looks s bs)) where
@@ -55,25 +54,4 @@ inside {o} {k} n e h = subst (λ q. IfSome q (λ j. j < n)) e h
 
 -- a word lies behind its operator
 pub op_fits : (rest : List ℕ) (op : Op) → Some op ≡ op_at rest → word_len op ≤ length rest
-op_fits rest op e =
-    go (eqb (length rest) 0) refl (begins (58 ∷ 45 ∷ []) rest) (begins (58 ∷ 43 ∷ []) rest) (begins (45 ∷ []) rest) (begins (43 ∷ []) rest) (begins (58 ∷ 63 ∷ []) rest) (begins (63 ∷ []) rest) e
-  where
-    fits : (w : List ℕ) → length w ≤ length rest - 1 → (eqb (length rest) 0 ≡ false) → (o : Operator) (colon : Bool) → Some op ≡ Some (operated o colon w) → word_len op ≤ length rest
-    fits w h n o colon i =
-        let same : op ≡ operated o colon w = cc in
-        let l = ap word_len same in
-        let some : length rest ≡ 0 → ⊥ = eqb-false (length rest) 0 n in
-        omega arith
-
-    go : (t : Bool) → t ≡ eqb (length rest) 0 → (a b d f g h : Bool)
-        → Some op ≡ cond t (Some plain) (cond a (Some (operated default true (drop 2 rest))) (cond b (Some (operated alternate true (drop 2 rest))) (cond d (Some (operated default false (drop 1 rest)))
-        (cond f (Some (operated alternate false (drop 1 rest))) (cond g (Some (operated error true (drop 2 rest))) (cond h (Some (operated error false (drop 1 rest))) None))))))
-        → word_len op ≤ length rest
-    go true n a b d f g h i = let same : op ≡ plain = cc in let l = ap word_len same in omega arith
-    go false n true b d f g h i = fits _ (omega (arith, length-drop 2 rest)) (sym n) _ _ i
-    go false n false true d f g h i = fits _ (omega (arith, length-drop 2 rest)) (sym n) _ _ i
-    go false n false false true f g h i = fits _ (omega (arith, length-drop 1 rest)) (sym n) _ _ i
-    go false n false false false true g h i = fits _ (omega (arith, length-drop 1 rest)) (sym n) _ _ i
-    go false n false false false false true h i = fits _ (omega (arith, length-drop 2 rest)) (sym n) _ _ i
-    go false n false false false false false true i = fits _ (omega (arith, length-drop 1 rest)) (sym n) _ _ i
-    go false n false false false false false false i = let z : ◌≡◌ {A = ℕ} 0 1 = cc in absurd (omega arith)
+op_fits rest op e = grind (arith, nat_tests, length-drop)
