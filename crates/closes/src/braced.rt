@@ -6,6 +6,7 @@ use crate::fronts::opens_inner;
 use budget::{WorkBudget, WorkFault};
 
 // The place of the `}` that leaves no inner `${` open.
+// Each byte is charged before it is looked at, so this is a loop and no chain of iterators.
 pub fn find_balanced_close(body: &[u8], work: &mut WorkBudget) -> Result<Option<usize>, WorkFault>
     ensures says { result ≡ paid work.old (braced_looks body.now) (braced_close body.now) }
     ensures work { work.new ≡ spent work.old (braced_looks body.now) }

@@ -10,6 +10,7 @@ use names::{PropertySyntax, parse_name};
 const NEWLINE: u8 = b'\n';
 
 // The place of the close in an operator's text, or of the latest `}` seen; the text starts at the place `start`.
+// Each byte is charged before it is looked at, so this is a loop and no chain of iterators.
 fn find_text_close(
     text: &[u8],
     start: usize,
