@@ -4,7 +4,7 @@ ghost use Rattle.matches.specs.Kinds.{Inside, kind_of};
 ghost use Rattle.matches.specs.Places.{places, starts};
 
 // How often a needle stands in a text.
-#[derive(Clone, Copy)]
+#[derive(Clone, Copy, PartialEq, Eq, Debug)]
 pub enum Matches {
     Nowhere,
     // where
@@ -12,14 +12,16 @@ pub enum Matches {
     Often,
 }
 
-// Whether the needle, which has a byte at least, stands at a place of the text.
-fn stands_at(text: &[u8], at: usize, needle: &[u8]) -> bool
-    requires { at ≤ length text.now }
-    ensures says { result ≡ starts needle.now (drop at text.now) }
-    ensures some { result ≡ true → 0 < length needle.now }
-    ensures within { result ≡ true → at + length needle.now ≤ length text.now }
+// Where the needle stands first in the text. A needle of no bytes stands nowhere.
+pub fn find_match(text: &[u8], needle: &[u8]) -> Option<usize>
+    ensures says { result ≡ slice_get (places needle.now text.now) 0 }
+    ensures some { IfSome result (λ at. 0 < length needle.now) }
+    ensures within { IfSome result (λ at. at + length needle.now ≤ length text.now) }
 {
-    !needle.is_empty() && text[at..].starts_with(needle)
+    if needle.is_empty() {
+        return None;
+    }
+    text.windows(needle.len()).position(|part| part == needle)
 }
 
 // How often the needle stands in the text: from the left, and no two matches overlap.
@@ -27,29 +29,12 @@ pub fn count_matches(text: &[u8], needle: &[u8]) -> usize
     ensures { result ≡ length (places needle.now text.now) }
 {
     let mut count = 0;
-    let mut at = 0;
-    while at < text.len() {
-        if stands_at(text, at, needle) {
-            count += 1;
-            at += needle.len();
-        } else {
-            at += 1;
-        }
+    let mut rest = text;
+    while let Some(at) = find_match(rest, needle) {
+        count += 1;
+        rest = &rest[at + needle.len()..];
     }
     count
-}
-
-// Where the needle stands first in the text.
-pub fn find_match(text: &[u8], needle: &[u8]) -> Option<usize>
-    ensures says { result ≡ slice_get (places needle.now text.now) 0 }
-    ensures within { IfSome result (λ at. at + length needle.now ≤ length text.now) }
-{
-    for at in 0..text.len() {
-        if stands_at(text, at, needle) {
-            return Some(at);
-        }
-    }
-    None
 }
 
 // Whether the needle stands in the text nowhere, once or more often.

@@ -1,20 +1,19 @@
-use Rattle.std.proofs.Common.{ℕ, List, sym, refl, ap, ◌∙◌}
+use Rattle.std.proofs.Common.{rules, ◌≡◌, ◌<◌, length, ℕ, List, tests, sym, ap, ◌∙◌}
 use Rattle.std.specs.List.{slice_get}
-use Rattle.matches.proofs.PlacesLaws.{spots_end, spots_hit, spots_miss}
+use Rattle.std.specs.Str.{bytes_eq}
+use Rattle.std.proofs.lemmas.Iterator.Search.{position_from_yields_List}
+use Rattle.std.proofs.lemmas.Iterator.Adapters.{position_from-zero}
+use Rattle.matches.proofs.PlacesLaws.{empty_nowhere, first_part, gives_parts, parts}
 use Rattle.matches.proofs.matching.find_match.Goals as goal
 
-pub returns-then-stands_at : goal.returns-then-stands_at
-returns-then-stands_at c =
-    let e =
-    spots_hit c.args.needle.now c.args.text.now c.loop-at.at c.loop-at-test.true (c.if-stands_at.ensures.some refl)
-    (sym c.if-stands_at.ensures.says) in
-    record { says = ap (λ ps. slice_get ps 0) (sym e ∙ c.loop-at.invariant); within = c.if-stands_at.ensures.within refl }
+pub returns-then-is_empty-clause-says : goal.returns-then-is_empty-clause-says
+returns-then-is_empty-clause-says c = let none : length c.args.needle.now ≡ 0 = search (rules, tests) in ap (λ (ps : List ℕ). slice_get ps 0) (sym (empty_nowhere c.args.needle.now c.args.text.now none))
 
-pub loop-at-preserved : goal.loop-at-preserved
-loop-at-preserved c =
-    sym (spots_miss c.args.needle.now c.args.text.now c.loop-at.at c.loop-at-test.true (sym c.if-stands_at.ensures.says)) ∙ c.loop-at.invariant
-
-pub returns : goal.returns
-returns c =
-    let e = spots_end c.args.needle.now c.args.text.now c.loop-at.at c.loop-at-test.false in
-    record { says = ap (λ (ps : List ℕ). slice_get ps 0) (sym e ∙ c.loop-at.invariant); within = tt }
+pub returns-clause-says : goal.returns-clause-says
+returns-clause-says c =
+    let n : List ℕ = c.args.needle.now in
+    let text : List ℕ = c.args.text.now in
+    let some : 0 < length n = search (rules, tests) in
+    position_from_yields_List (λ w. bytes_eq w n) _ _ c.position.result c.position.ensures.ran (gives_parts n text some c.windows.ensures.size c.windows.ensures.rest) (λ x b q k. search (rules, tests))
+    ∙ position_from-zero (λ w. bytes_eq w n) (parts (length n) text)
+    ∙ sym (first_part n some 0 text)
