@@ -2,7 +2,12 @@
 use Rattle.std.specs.Prelude.{ℕ, ◌+◌, ◌-◌, Bool, true, ◌&&◌, List, [], ◌∷◌, map, nat_le}
 use Rattle.std.specs.List.{between}
 use Rattle.pairs.specs.Pairs.{Pair}
+use Rattle.pairs.specs.declared.pair.Pair.{Pair as Texts}
 use Rattle.pairs.specs.declared.record.PairRecord.{PairRecord}
+
+-- The bytes of a text and its result.
+abbrev pub pair_read : Texts → Pair
+pair_read p = (p.text.now, p.result.now)
 
 -- The text, and behind it the result.
 abbrev pub pair_of : List ℕ → PairRecord → Pair

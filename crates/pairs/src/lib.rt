@@ -1,4 +1,5 @@
 #![tactic(auto)]
 
 pub mod list;
+pub mod pair;
 pub mod record;

@@ -1,13 +1,13 @@
-ghost use Rattle.std.specs.Prelude.{◌≡◌, [], length, take, drop, slice_index_or};
+ghost use Rattle.std.specs.Prelude.{◌≡◌, length, take, drop, ◌==◌};
 ghost use Rattle.std.specs.Option.{option_map};
-ghost use Rattle.std.specs.Str.{bytes_eq};
-ghost use Rattle.pairs.specs.Lists.{listed};
+ghost use Rattle.pairs.specs.Lists.{listed, pairs_left};
 ghost use Rattle.pairs.specs.Once.{EachOnce};
-ghost use Rattle.pairs.specs.Pairs.{has, same_pair};
-ghost use Rattle.pairs.specs.Records.{pairs_in};
+ghost use Rattle.pairs.specs.Pairs.{has};
+ghost use Rattle.pairs.specs.Records.{pair_read, pairs_in};
 ghost use Rattle.pairs.specs.Sizes.{longest, size_within};
 ghost use Rattle.pairs.specs.Lookups.{lookup};
 
+use crate::pair::Pair;
 use crate::record::PairRecord;
 
 // The pairs of a scope as they were recorded, each in its place in the pair bytes.
@@ -17,11 +17,28 @@ pub struct PairList<'r, 'b> {
     bytes: &'b [u8],
 }
 
-// Whether two texts have the same bytes.
-fn is_same(a: &[u8], b: &[u8]) -> bool
-    ensures { result ≡ bytes_eq a.now b.now }
-{
-    a == b
+// The pairs of a list that are still to come.
+#[derive(Clone, Copy)]
+pub struct Pairs<'r, 'b> {
+    rest: PairList<'r, 'b>,
+}
+
+impl<'r, 'b> Iterator for Pairs<'r, 'b> {
+    ghost use Rattle.std.specs.Iterator.{YieldsFirstBy, item_count};
+    ghost use Rattle.pairs.specs.Lists.{pairs_left};
+    ghost use Rattle.pairs.specs.Records.{pair_read};
+
+    type Item = Pair<'b>;
+
+    ghost next_gives = { YieldsFirstBy pair_read pairs_left };
+
+    ghost remaining = { item_count pairs_left };
+
+    fn next(&mut self) -> Option<Pair<'b>> {
+        let (first, records) = self.rest.records.split_first()?;
+        self.rest.records = records;
+        Some(first.pair_in(self.rest.bytes))
+    }
 }
 
 impl<'r, 'b> PairList<'r, 'b> {
@@ -37,6 +54,17 @@ impl<'r, 'b> PairList<'r, 'b> {
         }
     }
 
+    // The first n pairs, or all where there are fewer.
+    pub fn first(&self, n: usize) -> Self
+        ensures { listed result ≡ take n (listed self.now) }
+    {
+        let end = n.min(self.records.len());
+        PairList {
+            records: &self.records[..end],
+            bytes: self.bytes,
+        }
+    }
+
     // How many pairs are recorded, repeats too.
     pub fn len(&self) -> usize
         ensures { result ≡ length (listed self.now) }
@@ -44,73 +72,36 @@ impl<'r, 'b> PairList<'r, 'b> {
         self.records.len()
     }
 
-    // The text of the pair at i; empty where there is none.
-    pub fn text(&self, i: usize) -> &[u8]
-        ensures { result.now ≡ (slice_index_or (listed self.now) i ([], [])).0 }
+    // Whether no pair is recorded.
+    pub fn is_empty(&self) -> bool
+        ensures { result ≡ (length (listed self.now) == 0) }
     {
-        let records = self.records;
-        if i < records.len() {
-            records[i].text_in(self.bytes)
-        } else {
-            &[]
-        }
+        self.records.is_empty()
     }
 
-    // The result of the pair at i; empty where there is none.
-    pub fn result(&self, i: usize) -> &[u8]
-        ensures { result.now ≡ (slice_index_or (listed self.now) i ([], [])).1 }
+    // The pairs, one after the other.
+    pub fn iter(&self) -> Pairs<'r, 'b>
+        ensures { pairs_left result ≡ listed self.now }
     {
-        let records = self.records;
-        if i < records.len() {
-            records[i].result_in(self.bytes)
-        } else {
-            &[]
-        }
-    }
-
-    // Whether the pair at i is this one.
-    fn is_pair(&self, i: usize, text: &[u8], res: &[u8]) -> bool
-        ensures { result ≡ same_pair (slice_index_or (listed self.now) i ([], [])) (text.now, res.now) }
-    {
-        is_same(self.text(i), text) && is_same(self.result(i), res)
+        Pairs { rest: *self }
     }
 
     // Whether the pair is recorded.
-    pub fn has(&self, text: &[u8], res: &[u8]) -> bool
-        ensures { result ≡ has (listed self.now) (text.now, res.now) }
+    pub fn has(&self, pair: Pair) -> bool
+        ensures { result ≡ has (listed self.now) (pair_read pair.entry) }
     {
-        for i in 0..self.len() {
-            if self.is_pair(i, text, res) {
-                return true;
-            }
-        }
-        false
-    }
-
-    // Whether the pair at i is recorded before i too.
-    pub fn is_repeat(&self, i: usize) -> bool
-        ensures { result ≡ has (take i (listed self.now)) (slice_index_or (listed self.now) i ([], [])) }
-    {
-        let end = i.min(self.records.len());
-        let before = PairList {
-            records: &self.records[0..end],
-            bytes: self.bytes,
-        };
-        before.has(self.text(i), self.result(i))
+        self.iter().any(|recorded| recorded == pair)
     }
 
     // The length of the longest result of at most `most` bytes, or 0.
     pub fn size_within(&self, most: usize) -> usize
         ensures { result ≡ size_within most (listed self.now) }
     {
-        let mut best: usize = 0;
-        for i in 0..self.len() {
-            let size = self.result(i).len();
-            if size <= most {
-                best = best.max(size);
-            }
-        }
-        best
+        self.iter()
+            .map(|pair| pair.result.len())
+            .filter(|size| *size <= most)
+            .max()
+            .unwrap_or(0)
     }
 
     // The length of the longest result, or 0.
@@ -121,14 +112,11 @@ impl<'r, 'b> PairList<'r, 'b> {
     }
 
     // The text of the first pair with this result.
-    pub fn text_of(&self, res: &[u8]) -> Option<&[u8]>
+    pub fn text_of(&self, res: &[u8]) -> Option<&'b [u8]>
         ensures { option_map (λ x. x.now) result ≡ lookup (listed self.now) res.now }
     {
-        for i in 0..self.len() {
-            if is_same(self.result(i), res) {
-                return Some(self.text(i));
-            }
-        }
-        None
+        self.iter()
+            .find(|pair| pair.result == res)
+            .map(|pair| pair.text)
     }
 }

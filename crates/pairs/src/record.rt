@@ -1,9 +1,11 @@
 ghost use Rattle.std.specs.Prelude.{◌≡◌};
 ghost use Rattle.std.specs.List.{between};
-ghost use Rattle.pairs.specs.Records.{all_within, pair_of, within};
+ghost use Rattle.pairs.specs.Records.{all_within, pair_of, pair_read, within};
+
+use crate::pair::Pair;
 
 // Where a pair lies in the pair bytes: the text begins at `at`, and the result follows it.
-#[derive(Clone, Copy)]
+#[derive(Clone, Copy, PartialEq, Eq, Debug)]
 pub struct PairRecord {
     pub at: usize,
     // how many bytes the text has
@@ -36,20 +38,15 @@ impl PairRecord {
         self.at <= n && self.text <= n - self.at && self.result <= n - self.at - self.text
     }
 
-    // The text of the pair.
-    pub fn text_in(self, bytes: &[u8]) -> &[u8]
-        ensures { result.now ≡ (pair_of bytes.now self).0 }
+    // The pair that lies there, as far as the bytes go.
+    pub fn pair_in(self, bytes: &[u8]) -> Pair<'_>
+        ensures { pair_read result ≡ pair_of bytes.now self }
     {
-        let from = self.at;
-        part(bytes, from, from.saturating_add(self.text))
-    }
-
-    // The result of the pair.
-    pub fn result_in(self, bytes: &[u8]) -> &[u8]
-        ensures { result.now ≡ (pair_of bytes.now self).1 }
-    {
-        let from = self.at.saturating_add(self.text);
-        part(bytes, from, from.saturating_add(self.result))
+        let middle = self.at.saturating_add(self.text);
+        Pair {
+            text: part(bytes, self.at, middle),
+            result: part(bytes, middle, middle.saturating_add(self.result)),
+        }
     }
 }
 
@@ -57,10 +54,5 @@ impl PairRecord {
 pub fn are_within(records: &[PairRecord], n: usize) -> bool
     ensures { result ≡ all_within n records.now }
 {
-    for record in records {
-        if !record.is_within(n) {
-            return false;
-        }
-    }
-    true
+    records.iter().all(|record| record.is_within(n))
 }

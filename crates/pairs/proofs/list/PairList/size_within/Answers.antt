@@ -1,28 +1,22 @@
-use Rattle.std.proofs.Common.{◌≡◌, ℕ, ◌+◌, ◌<◌, ◌≤◌, max, List, [], length, get_or, drop, ap, ◌∙◌, arith}
-use Rattle.pairs.specs.Lists.{listed}
+use Rattle.std.proofs.Common.{◌≡◌, max, leb, List, map, unwrap_or, sym, ap, ◌∙◌, rules, tests}
+use Rattle.std.proofs.lemmas.Iterator.{YieldsList-from_map}
+use Rattle.std.proofs.lemmas.Iterator.Consumers.{YieldsList-at, YieldsList-from_filter, YieldsList-from_first, max_from_yields_List}
+use Rattle.std.specs.List.{filter, reduce}
+use Rattle.std.specs.Option.{option_map}
+use Rattle.std.proofs.lemmas.Iterator.Adapters.{option_map_id}
+use Rattle.pairs.specs.Lists.{listed, pairs_left}
 use Rattle.pairs.specs.Pairs.{Pair}
-use Rattle.pairs.specs.Sizes.{size, size_within}
-use Rattle.pairs.proofs.ListsLaws.{size_end, size_left, size_taken}
+use Rattle.pairs.specs.Records.{pair_read}
+use Rattle.pairs.specs.Sizes.{size}
+use Rattle.pairs.proofs.ListsLaws.{best_within}
 use Rattle.pairs.proofs.list.PairList.size_within.Goals as goal
-use Rattle.pairs.proofs.list.PairList.size_within.Goals.{then-size-most, else-size-most}
-
-pub loop-i-preserved : goal.loop-i-preserved
-loop-i-preserved c =
-    let ps : List Pair = listed c.args.self.now in
-    let i : ℕ = c.loop-i.i in
-    let n : ℕ = c.args.most in
-    let here : i < length ps = omega arith in
-    let long : length c.result-size.result.now ≡ size (get_or ps i ([], [])) = ap length c.result-size.ensures in
-    let goal : max c.if-size-most.best (size_within n (drop (i + 1) ps)) ≡ size_within n ps = elim c.if-size-most.branch [
-      | then-size-most w ↦
-          let low : size (get_or ps i ([], [])) ≤ n = omega (arith, w.if-size-most.true) in
-          let best : c.if-size-most.best ≡ max c.loop-i.best (size (get_or ps i ([], []))) = w.best-is ∙ w.max-best.ensures ∙ ap (max c.loop-i.best) long in
-          ap (λ k. max k (size_within n (drop (i + 1) ps))) best ∙ size_taken ps i ([], []) n c.loop-i.best here c.loop-i.invariant low
-      | else-size-most w ↦
-          let high : n < size (get_or ps i ([], [])) = omega (arith, w.if-size-most.false) in
-          ap (λ k. max k (size_within n (drop (i + 1) ps))) w.best-is ∙ size_left ps i ([], []) n c.loop-i.best here c.loop-i.invariant high
-    ] in
-    goal
 
 pub returns : goal.returns
-returns c = size_end (listed c.args.self.now) c.loop-i.i ([], []) c.args.most c.loop-i.best (omega arith) c.loop-i.invariant
+returns c =
+    let ps : List Pair = listed c.args.self.now in
+    let found : option_map (λ x. x) c.max.result ≡ reduce max (filter (λ s. leb s c.args.most) (map size ps)) =
+    max_from_yields_List c.filter.result c.max.result c.max.ensures.ran
+    (YieldsList-from_filter _ (λ s. leb s c.args.most)
+    (YieldsList-at c.filter.ensures.source (YieldsList-from_map _ size (YieldsList-at c.map.ensures.source (YieldsList-from_first pair_read pairs_left ps c.iter.ensures)) c.map.ensures.closure (λ x r q k. search rules)))
+    c.filter.ensures.closure (λ x b q k. search (rules, tests))) in
+    c.unwrap_or.ensures ∙ ap (λ r. unwrap_or r 0) (sym (option_map_id c.max.result) ∙ found) ∙ best_within c.args.most ps
