@@ -1,41 +1,56 @@
 -- Steps of a redaction, and what is left of them. Assumes nothing.
-use Rattle.std.proofs.Common.{◌≡◌, ℕ, ◌+◌, ◌<◌, ◌≤◌, Bool, true, false, cond, List, [], ◌∷◌, ◌++◌, length, get_or, take, drop, sym, refl, ap, ◌∙◌}
-use Rattle.std.proofs.lemmas.List.{at_drop_more, drop_all, take_more}
+use Rattle.std.proofs.Common.{◌≡◌, ℕ, zero, suc, ◌+◌, ◌<◌, Bool, true, false, cond, List, [], ◌∷◌, ◌++◌, length, take, drop, Result, Err, sym, refl, ap, ◌∙◌, subst, arith}
 use Rattle.std.proofs.lemmas.Bool.{cond-true, cond-false, eq-eqb, ne_eqb}
 use Rattle.pairs.specs.Pairs.{Pair, has}
 use Rattle.pairs.specs.Sizes.{of_size, size}
 use Rattle.pairs.proofs.News.{news}
+use Rattle.redaction.specs.Drafts.{Kept, ending, given_up}
 use Rattle.redaction.specs.Redactions.{State, step, steps}
+use Rattle.redaction.specs.declared.draft.Draft.{Draft}
+use Rattle.redaction.specs.declared.draft.Unmade.{Unmade}
+use Rattle.redaction.specs.declared.draft.Unmade.TheVariants.{Often, TooShort}
 
 pub steps_append : (n : ℕ) (s : State) (ps qs : List Pair) → steps n s (ps ++ qs) ≡ steps n (steps n s ps) qs
 steps_append n s [] qs = refl
 steps_append n s (p ∷ ps) qs = steps_append n (step n s p) ps qs
 
--- what is left of the pairs with k bytes at place i of the list ps
-module _ (n k : ℕ) (ps : List Pair) (i : ℕ) (d : Pair) where
-  abbrev pub left : State → ℕ → State
-  left s j = steps n s (of_size k (news (take j ps) (drop j ps)))
+-- a redaction that was given up stays so
+pub steps_given_up : (n : ℕ) (e : Unmade) (ps : List Pair) → steps n (given_up e) ps ≡ given_up e
+steps_given_up n e [] = refl
+steps_given_up n Often (p ∷ ps) = steps_given_up n Often ps
+steps_given_up n (TooShort m) (p ∷ ps) = steps_given_up n (TooShort m) ps
 
-  abbrev rest : List Pair
-  rest = news (take (i + 1) ps) (drop (i + 1) ps)
+pub passed_up : (d : Draft) (r : Result (Unit {0}) Unmade) (e f : Unmade) → r ≡ Err f → f ≡ e → ending d r ≡ given_up e
+passed_up d r e f is same = ap (ending d) is ∙ ap given_up same
 
-  rest_is : i < length ps → news (take i ps) (drop i ps) ≡ cond (has (take i ps) (get_or ps i d)) rest (get_or ps i d ∷ rest)
-  rest_is h =
-      at_drop_more (news (take i ps)) ps i d h
-      ∙ ap (λ q. cond (has (take i ps) (get_or ps i d)) (news q (drop (i + 1) ps)) (get_or ps i d ∷ news q (drop (i + 1) ps))) (sym (take_more ps i d h))
+-- one step more
+pub kept_by : {old mid new last : Draft} → new ≡ last → Kept old mid → Kept mid new → Kept old last
+kept_by {old} {mid} {new} {last} is a b = subst (Kept old) is (record { given = b.given ∙ a.given; room = b.room ∙ a.room; lender = b.lender ∙ a.lender })
 
-  pub left_repeat : (s : State) → i < length ps → true ≡ has (take i ps) (get_or ps i d) → left s i ≡ left s (i + 1)
-  left_repeat s h e = ap (λ q. steps n s (of_size k q)) (rest_is h ∙ cond-true _ _ _ (sym e))
+-- the pair at the front of what is left of a list
+pub front_more : (ps : List Pair) (i : ℕ) (p : Pair) (rest : List Pair) → drop i ps ≡ p ∷ rest → (i < length ps) × (rest ≡ drop (i + 1) ps) × (take (i + 1) ps ≡ take i ps ++ (p ∷ []))
+front_more [] zero p rest e = absurd (cc)
+front_more [] (suc i) p rest e = absurd (cc)
+front_more (q ∷ ps) zero p rest e =
+    let same : q ≡ p = cc in
+    let others : rest ≡ ps = cc in
+    (omega arith, others, ap (λ x. x ∷ []) same)
+front_more (q ∷ ps) (suc i) p rest e =
+    let more = front_more ps i p rest e in
+    let k : suc (i + 1) ≡ suc i + 1 = omega arith in
+    (omega arith, more.1 ∙ ap (λ m. drop m (q ∷ ps)) k, ap (λ m. take m (q ∷ ps)) (sym k) ∙ ap (λ r. q ∷ r) more.2)
 
-  other : (b : Bool) → (size (get_or ps i d) ≡ k → ⊥) → of_size k (cond b rest (get_or ps i d ∷ rest)) ≡ of_size k rest
-  other true ne = refl
-  other false ne = cond-false _ _ _ (ne_eqb (size (get_or ps i d)) k ne)
+-- what is left of the pairs with k bytes, where those in `seen` came before
+module _ (n k : ℕ) (seen : List Pair) (p : Pair) (rest : List Pair) where
+  pub left_repeat : (s : State) → true ≡ has seen p → steps n s (of_size k (news seen (p ∷ rest))) ≡ steps n s (of_size k (news (seen ++ (p ∷ [])) rest))
+  left_repeat s e = ap (λ q. steps n s (of_size k q)) (cond-true _ _ _ (sym e))
 
-  pub left_other : (s : State) → i < length ps → (size (get_or ps i d) ≡ k → ⊥) → left s i ≡ left s (i + 1)
-  left_other s h ne = ap (λ q. steps n s (of_size k q)) (rest_is h) ∙ ap (steps n s) (other (has (take i ps) (get_or ps i d)) ne)
+  other : (b : Bool) → (size p ≡ k → ⊥) → (ps : List Pair) → of_size k (cond b ps (p ∷ ps)) ≡ of_size k ps
+  other true ne ps = refl
+  other false ne ps = cond-false _ _ _ (ne_eqb (size p) k ne)
 
-  pub left_taken : (s : State) → i < length ps → false ≡ has (take i ps) (get_or ps i d) → size (get_or ps i d) ≡ k → left s i ≡ left (step n s (get_or ps i d)) (i + 1)
-  left_taken s h e l = ap (λ q. steps n s (of_size k q)) (rest_is h ∙ cond-false _ _ _ (sym e)) ∙ ap (steps n s) (cond-true _ _ _ (eq-eqb (size (get_or ps i d)) k l))
+  pub left_other : (s : State) → (size p ≡ k → ⊥) → steps n s (of_size k (news seen (p ∷ rest))) ≡ steps n s (of_size k (news (seen ++ (p ∷ [])) rest))
+  left_other s ne = ap (steps n s) (other (has seen p) ne (news (seen ++ (p ∷ [])) rest))
 
-  pub left_none : (s : State) → length ps ≤ i → left s i ≡ s
-  left_none s h = ap (λ q. steps n s (of_size k (news (take i ps) q))) (drop_all i ps h)
+  pub left_taken : (s : State) → false ≡ has seen p → size p ≡ k → steps n s (of_size k (news seen (p ∷ rest))) ≡ steps n (step n s p) (of_size k (news (seen ++ (p ∷ [])) rest))
+  left_taken s e l = ap (λ q. steps n s (of_size k q)) (cond-false _ _ _ (sym e)) ∙ ap (steps n s) (cond-true _ _ _ (eq-eqb (size p) k l))

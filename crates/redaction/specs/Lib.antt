@@ -1,4 +1,4 @@
-pub mod Courses
+pub mod Drafts
 pub mod Orders
 pub mod Redactions
 pub mod Splices

@@ -1,8 +1,7 @@
 #![tactic(auto)]
 
-mod course;
+mod draft;
 pub mod redact;
-mod splice;
 mod steps;
 #[cfg(test)]
 mod tests;

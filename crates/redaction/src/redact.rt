@@ -1,30 +1,55 @@
-ghost use Rattle.std.specs.Prelude.{◌≡◌, length};
+ghost use Rattle.std.specs.Prelude.{◌≡◌, ◌≤◌, false, length, take, IfOk, IfSome};
 ghost use Rattle.pairs.specs.Lists.{scope};
 ghost use Rattle.pairs.specs.Once.{EachOnce};
-ghost use Rattle.answers.specs.Told.{answer_of, area_of};
-ghost use Rattle.redaction.specs.Orders.{LongestFirst};
-ghost use Rattle.redaction.specs.Redactions.{shown, identified, message_fallback, redacted};
+ghost use Rattle.answers.specs.Told.{answer_of, area_of, fronted};
+ghost use Rattle.redaction.specs.Drafts.{outcome, shown_len};
+ghost use Rattle.redaction.specs.Orders.{LongestFirst, longest_first};
+ghost use Rattle.redaction.specs.Redactions.{shown, identified, message_fallback, redacted, steps};
+ghost use Rattle.redaction.specs.Redactions.State.{going};
 
-use crate::course::Course;
-use crate::steps::take_pairs;
+use crate::draft::{Draft, Unmade};
 use answers::{Answer, OutputTooShort};
 use pairs::list::PairList;
 
 // What a message shows where its bytes may not be shown.
 pub const MESSAGE_FALLBACK: &[u8] = b"invalid interpolated scalar value";
 
+// Zeros behind the text that the answer gives, which stands at the front of the area.
+fn finish(answer: Result<Answer, OutputTooShort>, area: &mut [u8]) -> Result<Answer, OutputTooShort>
+    requires { shown_len answer ≤ length area.old }
+    ensures says { result ≡ answer }
+    ensures area { area.new ≡ fronted (length area.old) (take (shown_len answer) area.old) }
+{
+    let len = match answer {
+        Ok(Answer::Replaced(len)) => len,
+        Ok(Answer::Unchanged) | Err(_) => 0,
+    };
+    area[len..].fill(0);
+    answer
+}
+
 // A text at the front of the area, and zeros behind it; zeros alone where it does not fit.
 fn show(text: &[u8], area: &mut [u8]) -> Result<Answer, OutputTooShort>
     ensures says { result ≡ answer_of (shown (length area.old) text.now) }
     ensures area { area.new ≡ area_of (length area.old) (shown (length area.old) text.now) }
 {
-    area.fill(0);
     let len = text.len();
     if len > area.len() {
-        return Err(OutputTooShort { needed: len });
+        return finish(Err(OutputTooShort { needed: len }), area);
     }
-    area[0..len].copy_from_slice(text);
-    Ok(Answer::Replaced(len))
+    area[..len].copy_from_slice(text);
+    finish(Ok(Answer::Replaced(len)), area)
+}
+
+// Makes the text in which the results of the pairs are put back to their texts, at the front of the area. Answers its length, or None where nothing was replaced.
+fn make(text: &[u8], pairs: &PairList, area: &mut [u8]) -> Result<Option<usize>, Unmade>
+    ensures says { outcome text.now area.new result ≡ steps (length area.old) (going false text.now) (longest_first (scope pairs.now)) }
+    ensures room { length area.new ≡ length area.old }
+    ensures within { IfOk result (λ made. IfSome made (λ len. len ≤ length area.old)) }
+{
+    let mut draft = Draft::new(text, area);
+    draft.take_pairs(pairs)?;
+    Ok(draft.made)
 }
 
 // A text in which the results of the pairs are put back to their texts, or the fallback.
@@ -37,20 +62,13 @@ fn redact_with_pairs(
     ensures says { result ≡ answer_of (redacted (length area.old) fallback.now (scope pairs.now) text.now) }
     ensures area { area.new ≡ area_of (length area.old) (redacted (length area.old) fallback.now (scope pairs.now) text.now) }
 {
-    if pairs.len() == 0 {
-        area.fill(0);
-        return Ok(Answer::Unchanged);
+    if pairs.is_empty() {
+        return finish(Ok(Answer::Unchanged), area);
     }
-    match take_pairs(text, area, pairs) {
-        Course::Given | Course::Fallback => show(fallback, area),
-        Course::Made(len) => {
-            area[len..].fill(0);
-            Ok(Answer::Replaced(len))
-        }
-        Course::TooShort(needed) => {
-            area.fill(0);
-            Err(OutputTooShort { needed })
-        }
+    match make(text, pairs, area) {
+        Ok(Some(len)) => finish(Ok(Answer::Replaced(len)), area),
+        Ok(None) | Err(Unmade::Often) => show(fallback, area),
+        Err(Unmade::TooShort(needed)) => finish(Err(OutputTooShort { needed }), area),
     }
 }
 
@@ -93,12 +111,8 @@ pub fn redact_identifier(
     ensures says { result ≡ answer_of (identified (length area.old) fallback.now (scope pairs.now) name.now) }
     ensures area { area.new ≡ area_of (length area.old) (identified (length area.old) fallback.now (scope pairs.now) name.now) }
 {
-    if pairs.len() == 0 {
-        area.fill(0);
-        return Ok(Answer::Unchanged);
+    if pairs.is_empty() {
+        return finish(Ok(Answer::Unchanged), area);
     }
-    match pairs.text_of(name) {
-        Some(text) => show(text, area),
-        None => show(fallback, area),
-    }
+    show(pairs.text_of(name).unwrap_or(fallback), area)
 }

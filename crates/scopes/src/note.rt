@@ -2,6 +2,7 @@ ghost use Rattle.std.specs.Prelude.{◌≡◌, ◌+◌, ◌≤◌, length, slice
 ghost use Rattle.scopes.specs.Notes.{append_answer, append_memory, lacks, laid_at, memory, note_answer, note_memory};
 
 use crate::marks::RedactionMarks;
+use pairs::pair::Pair;
 use pairs::record::PairRecord;
 use stack::Stack;
 
@@ -35,7 +36,9 @@ impl RedactionMarks {
     {
         match self.start {
             None => false,
-            Some(_) => !self.innermost(records, bytes).has(text, res),
+            Some(_) => !self
+                .innermost(records, bytes)
+                .has(Pair { text, result: res }),
         }
     }
 

@@ -1,31 +1,18 @@
-use Rattle.std.proofs.Common.{◌≡◌, ℕ, List, length, replicate, unwrap_or, sym, ap, ◌∙◌, rules}
-use Rattle.pairs.specs.Lists.{listed}
+use Rattle.std.proofs.Common.{◌≡◌, ℕ, List, length, unwrap_or, sym, ap, ◌∙◌, rules, tests}
+use Rattle.std.specs.Option.{option_map}
 use Rattle.answers.specs.Told.{answer_of, area_of}
-use Rattle.redaction.specs.Redactions.{shown}
-use Rattle.redaction.proofs.EndsLaws.{none_identified, some_identified}
+use Rattle.pairs.specs.Lists.{listed, scope}
+use Rattle.redaction.specs.Redactions.{identified, shown}
+use Rattle.redaction.proofs.EndsLaws.{some_identified}
 use Rattle.redaction.proofs.redact.redact_identifier.Goals as goal
 
-pub returns-then-len-eq0 : goal.returns-then-len-eq0
-returns-then-len-eq0 c =
-    let n : ℕ = length c.args.area.now in
-    let zeros : c.fill.new.self ≡ replicate n 0 = search rules in
-    let out = none_identified n c.args.fallback.now c.args.name.now (listed c.args.pairs.now) (sym c.len.ensures ∙ c.if-len-eq0.true) in
-    record { says = sym (ap answer_of out); area = zeros ∙ sym (ap (area_of n) out) }
-
-pub returns-in-Some : goal.returns-in-Some
-returns-in-Some c =
+pub returns : goal.returns
+returns c =
     let n : ℕ = length c.args.area.now in
     let fallback : List ℕ = c.args.fallback.now in
-    let out =
-    some_identified n fallback c.args.name.now (listed c.args.pairs.now) (λ e. c.if-len-eq0.false (c.len.ensures ∙ e))
-    ∙ ap (λ x. shown n (unwrap_or x fallback)) (sym c.in-Some.ensures) in
-    record { says = c.show.ensures.says ∙ sym (ap answer_of out); area = c.show.ensures.area ∙ sym (ap (area_of n) out) }
-
-pub returns-in-None : goal.returns-in-None
-returns-in-None c =
-    let n : ℕ = length c.args.area.now in
-    let fallback : List ℕ = c.args.fallback.now in
-    let out =
-    some_identified n fallback c.args.name.now (listed c.args.pairs.now) (λ e. c.if-len-eq0.false (c.len.ensures ∙ e))
-    ∙ ap (λ x. shown n (unwrap_or x fallback)) (sym c.in-None.ensures) in
-    record { says = c.show-in-None.ensures.says ∙ sym (ap answer_of out); area = c.show-in-None.ensures.area ∙ sym (ap (area_of n) out) }
+    let some : length (listed c.args.pairs.now) ≡ 0 → ⊥ = search (rules, tests) in
+    let found : c.unwrap_or.result.now ≡ unwrap_or (option_map (λ x. x.now) c.text_of.result) fallback = search rules in
+    let out : shown n c.unwrap_or.result.now ≡ identified n fallback (scope c.args.pairs.now) c.args.name.now =
+    ap (shown n) (found ∙ ap (λ x. unwrap_or x fallback) c.text_of.ensures)
+    ∙ sym (some_identified n fallback c.args.name.now (listed c.args.pairs.now) some) in
+    record { says = c.show.ensures.says ∙ ap answer_of out; area = c.show.ensures.area ∙ ap (area_of n) out }

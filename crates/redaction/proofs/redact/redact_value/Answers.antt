@@ -2,5 +2,8 @@ use Rattle.pairs.proofs.FirstsLaws.{each_once}
 use Rattle.redaction.proofs.OrdersHold.{order_holds}
 use Rattle.redaction.proofs.redact.redact_value.Goals as goal
 
-pub returns : goal.returns
-returns c = record { once = each_once; order = order_holds; says = c.redact_with_pairs.ensures.says; area = c.redact_with_pairs.ensures.area }
+pub returns-clause-once : goal.returns-clause-once
+returns-clause-once c = each_once
+
+pub returns-clause-order : goal.returns-clause-order
+returns-clause-order c = order_holds
