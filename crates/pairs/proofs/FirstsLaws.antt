@@ -1,7 +1,9 @@
 -- What is kept of a list of notings. Assumes nothing.
 use Rattle.std.proofs.Common.{◌≡◌, ℕ, Bool, true, false, cond, ◌||◌, List, [], ◌∷◌, ◌++◌, sym, refl, ap, ◌∙◌, subst, ⊎_elim}
 use Rattle.std.proofs.lemmas.Slice.Eq.{bytes_eq-Decides}
+use Rattle.std.proofs.Math.Bool.{or-false, or_assoc}
 use Rattle.std.proofs.lemmas.List.{append_assoc, append-nil}
+use Rattle.std.proofs.lemmas.List.Recursion.{or_push}
 use Rattle.std.proofs.lemmas.Bool.{and_from, and_parts, both_ways, cond-true, cond-false, false≢true, or_cases, or_from, or_left, or_right}
 use Rattle.std.specs.Str.{bytes_eq}
 use Rattle.pairs.specs.Lookups.{lookup}
@@ -16,17 +18,8 @@ same_pair_eq p q e =
     let b : p.1 ≡ q.1 = (bytes_eq-Decides p.1 q.1).0 both.1 in
     λ i. (a i, b i)
 
-or_none : (a : Bool) → (a || false) ≡ a
-or_none true = refl
-or_none false = refl
-
-or_assoc : (a b c : Bool) → ((a || b) || c) ≡ (a || (b || c))
-or_assoc true b c = refl
-or_assoc false b c = refl
-
 pub has_push : (qs : List Pair) (q p : Pair) → has (qs ++ (q ∷ [])) p ≡ (has qs p || same_pair q p)
-has_push [] q p = or_none (same_pair q p)
-has_push (x ∷ qs) q p = ap (λ b. same_pair x p || b) (has_push qs q p) ∙ sym (or_assoc (same_pair x p) (has qs p) (same_pair q p))
+has_push qs q p = or_push (λ rs. has rs p) (λ r. same_pair r p) refl (λ _ _. refl) qs q
 
 -- what is there already adds nothing
 absorbed : (x y : Bool) → (y ≡ true → x ≡ true) → x ≡ (x || y)
@@ -45,7 +38,7 @@ has_add qs q p = go (has qs q) refl
     go false e = has_push qs q p
 
 has_add_all : (seen ps : List Pair) (p : Pair) → has (add_all seen ps) p ≡ (has seen p || has ps p)
-has_add_all seen [] p = sym (or_none (has seen p))
+has_add_all seen [] p = sym (or-false (has seen p))
 has_add_all seen (q ∷ ps) p =
     has_add_all (add seen q) ps p ∙ (ap (λ b. b || has ps p) (has_add seen q p) ∙ or_assoc (has seen p) (same_pair q p) (has ps p))
 

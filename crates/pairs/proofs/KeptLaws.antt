@@ -1,6 +1,7 @@
 -- Pairs whose bytes stay as they were, and a pair that is laid behind them. Assumes nothing.
 use Rattle.std.proofs.Common.{◌≡◌, ℕ, ◌+◌, ◌-◌, ◌≤◌, true, ◌&&◌, leb, List, [], ◌∷◌, ◌++◌, length, take, drop, sym, refl, ap, ◌∙◌, arith}
 use Rattle.std.proofs.lemmas.List.{drop_at, drop-drop, take_at, take-take}
+use Rattle.std.proofs.lemmas.List.Recursion.{and_push}
 use Rattle.std.proofs.lemmas.Slice.{between_is}
 use Rattle.std.proofs.lemmas.Bool.{and_from, and_parts, le-leb, leb-true}
 use Rattle.std.specs.List.{between}
@@ -25,10 +26,7 @@ all_within_raised n m (r ∷ rs) h e =
     and_from _ _ (ends_within m r low) (all_within_raised n m rs h both.1)
 
 pub all_within_push : (n : ℕ) (rs : List PairRecord) (r : PairRecord) → all_within n rs ≡ true → within n r ≡ true → all_within n (rs ++ (r ∷ [])) ≡ true
-all_within_push n [] r e f = and_from _ _ f refl
-all_within_push n (q ∷ rs) r e f =
-    let both = and_parts (within n q) (all_within n rs) e in
-    and_from _ _ both.0 (all_within_push n rs r both.1 f)
+all_within_push n rs r e f = and_push (all_within n) (within n) refl (λ _ _. refl) rs r ∙ and_from _ _ e f
 
 -- bytes that agree up to n
 module _ (n : ℕ) (xs ys : List ℕ) (same : take n xs ≡ take n ys) where

@@ -8,7 +8,7 @@ pub(crate) struct Draft<'t, 'a> {
     pub(crate) area: &'a mut [u8],
     // how many bytes the text has that was made; None while nothing is replaced
     pub(crate) made: Option<usize>,
-    pub ghost within: { ForSome made (λ len. len ≤ length area.now) },
+    ghost within: { ForSome made (λ len. len ≤ length area.now) },
 }
 
 // Why no text is made.
