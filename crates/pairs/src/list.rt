@@ -93,7 +93,7 @@ impl<'r, 'b> PairList<'r, 'b> {
         self.iter().any(|recorded| recorded == pair)
     }
 
-    // The length of the longest result of at most `most` bytes, or 0.
+    // The length of the longest result of at most `most` bytes, or 0: no Option, since a result of no bytes counts as none.
     pub fn size_within(&self, most: usize) -> usize
         ensures { result ≡ size_within most (listed self.now) }
     {
