@@ -18,15 +18,6 @@ laid_bytes : (m : Option (List ℕ)) (area : List ℕ) → laid m area ≡ laid 
 laid_bytes None area = ap (λ l. l ++ area) (none_of (length area))
 laid_bytes (Some value) area = refl
 
--- a byte at its place, or none where the area is full
-module _ (area bytes : List ℕ) (at : ℕ) where
-  pub byte_laid : (byte : ℕ) → byte ≡ get_or bytes 0 0 → length bytes ≡ 1 → at < length area → set area at byte ≡ laid_behind at bytes area
-  byte_laid byte b v l =
-      same_lists _ _ (search (rules, places)) (λ k d h. grind (arith, places, get_or-set_same, get_or-set_other, cases_eq k at))
-
-  pub past_laid : length area ≤ at → area ≡ laid_behind at bytes area
-  past_laid l = same_lists _ _ (search (rules, places)) (λ k d h. grind (arith, places))
-
 -- bytes, or a value, laid into the part of the area behind the text
 bytes_part : (bytes area part : List ℕ) (at len : ℕ) → at ≡ min len (length area) → part ≡ laid (Some bytes) (take (length area - at) (drop at area))
     → put_mid at (length area - at) area part ≡ laid_behind len bytes area
@@ -36,14 +27,6 @@ pub part_laid : (m : Option (List ℕ)) (area part : List ℕ) (at len : ℕ) �
     → put_mid at (length area - at) area part ≡ laid_behind len (bytes_of m) area
 part_laid m area part at len e p = bytes_part (bytes_of m) area part at len e (p ∙ laid_bytes m (take (length area - at) (drop at area)))
 
--- zeros behind the text
-pub zeros_laid : (area zeros : List ℕ) (len : ℕ) → len ≤ length area → zeros ≡ replicate (length area - len) 0
-    → put_mid len (length area - len) area zeros ≡ closed (length area) len (take len area)
-zeros_laid area zeros len l z =
-    let behind : put_mid len (length area - len) area zeros ≡ take len area ++ replicate (length area - len) 0
-    = same_lists _ _ (search (rules, places)) (λ k d h. grind (arith, places)) in
-    behind ∙ sym (cond-true _ _ _ (le-leb len (length area) l))
-
 -- as much of the longer text as fits is at the front
 front_on : (bytes area text : List ℕ) (n at : ℕ) → length area ≡ n → n < 2 ^ 63 → at ≡ counted (length text) → take (length text) area ≡ take n text
     → take (length (text ++ bytes)) (laid_behind at bytes area) ≡ take n (text ++ bytes)
@@ -51,9 +34,6 @@ front_on bytes area text n at s r a e =
     same_lists _ _ (search (rules, places)) (λ k d h.
     let here : get_or (take (length text) area) k d ≡ get_or (take n text) k d = ap (λ l. get_or l k d) e in
     grind (arith, places))
-
-pub holds_none : (area lent : MutBor (List ℕ)) → area.ghost_name ≡ lent.ghost_name → length area.now ≡ length lent.now → length lent.now < 2 ^ 63 → Holds (begun area) lent []
-holds_none area lent e s r = record { same = e; size = s; room = r; len = refl; front = none_of (length lent.now) }
 
 pub put_is : {area : MutBor (List ℕ)} {now : List ℕ} {len : ℕ} (out : Output) (bytes : List ℕ) (n : ℕ) → area ≡ at_last out.area now
     → now ≡ laid_behind out.len bytes out.area.now → len ≡ counted (out.len + n) → ◌≡◌ {A = Output} (record { area = area; len = len }) (put bytes n out)
@@ -80,17 +60,3 @@ pub grows_none : (out : Output) → Grows out [] out
 grows_none out lent text h =
     let P : List ℕ → Type 0 = λ t. Holds out lent t in
     subst P (sym (append-nil text)) h
-
--- whether the text fits, and what is left of it, by the text that is held
-module _ (out : Output) (lent : MutBor (List ℕ)) (text : List ℕ) (h : Holds out lent text) where
-  pub fitted_held : fitted (length out.area.now) out.len ≡ fitted (length lent.now) (length text)
-  fitted_held = grind (arith, nat_tests)
-
-  pub closed_held : closed (length out.area.now) out.len (take out.len out.area.now) ≡ closed (length lent.now) (length text) text
-  closed_held = elim (cases_lt (length lent.now) (length text)) [
-    | inl long ↦ grind (arith, nat_tests)
-    | inr fits ↦
-        let whole : take (length text) out.area.now ≡ text = h.front ∙ take_all (length lent.now) text fits in
-        let n : out.len ≡ length text = omega (arith, h.len, h.room) in
-        cc
-  ]

@@ -2,6 +2,7 @@
 use Rattle.std.specs.Prelude.{◌≡◌, ℕ, ◌+◌, ◌-◌, ◌^◌, ◌<◌, min, cond, List, ◌++◌, length, take, drop, replicate, Some, Ok, Err, Result, nat_le}
 use denote.Ref.{MutBor, at_last}
 use Rattle.source.specs.Laying.{laid}
+use Rattle.answers.specs.declared.OutputTooShort.{OutputTooShort}
 use Rattle.output.specs.declared.Output.{Output}
 
 -- a length as it is counted: at most the largest number of 64 bits
@@ -35,8 +36,8 @@ abbrev pub Grows : Output → List ℕ → Output → Type 0
 Grows before more after = (lent : MutBor (List ℕ)) (text : List ℕ) → Holds before lent text → Holds after lent (text ++ more)
 
 -- the length of a text as an answer: whether it fits n bytes
-abbrev pub fitted : ℕ → ℕ → Result ℕ ℕ
-fitted n len = cond (nat_le len n) (Ok len) (Err (counted len))
+abbrev pub fitted : ℕ → ℕ → Result ℕ OutputTooShort
+fitted n len = cond (nat_le len n) (Ok len) (Err (record { needed = counted len }))
 
 -- n bytes with a text of len bytes and zeros behind it; all zeros where it does not fit
 abbrev pub closed : ℕ → ℕ → List ℕ → List ℕ

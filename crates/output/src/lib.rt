@@ -5,10 +5,12 @@ ghost use Rattle.std.specs.Borrow.{MutBor};
 ghost use Rattle.source.specs.Shapes.{bytes_of};
 ghost use Rattle.output.specs.Outputs.{Grows, Holds, begun, closed, fitted, put};
 
+use answers::OutputTooShort;
 use source::fetch::lay_bytes;
 use source::source::PropertySource;
 
 // A text that is laid into a lent area from its front on. It may be longer than the area: its whole length is counted.
+// The length stands beside the lent area, and is no slice's own, since it may pass the area's.
 #[derive(Drop)]
 pub struct Output<'a> {
     area: &'a mut [u8],
@@ -44,11 +46,7 @@ impl<'a> Output<'a> {
         ensures puts { self.new ≡ put (byte ∷ []) 1 self.old }
         ensures grows { Grows self.old (byte ∷ []) self.new }
     {
-        let at = self.len;
-        if at < self.area.len() {
-            self.area[at] = byte;
-        }
-        self.len = at.saturating_add(1);
+        self.put_bytes(&[byte]);
     }
 
     // The bytes of a part more.
@@ -62,6 +60,7 @@ impl<'a> Output<'a> {
     }
 
     // The value of a property more, `len` being its length; none where the name is unset.
+    // Laid as in `put_bytes`: one function for both would lend out a part of the area, and be longer than the three lines.
     pub fn put_value<S: PropertySource>(&mut self, source: &S, name: &[u8], len: usize)
         ensures puts { self.new ≡ put (bytes_of (S.PropertySource.means source.now name.now)) len self.old }
         ensures grows { len ≡ length (bytes_of (S.PropertySource.means source.now name.now)) → Grows self.old (bytes_of (S.PropertySource.means source.now name.now)) self.new }
@@ -72,7 +71,7 @@ impl<'a> Output<'a> {
     }
 
     // Zeros behind the text, and its length. Where it is longer than the area, all is zero.
-    pub fn finish(self) -> Result<usize, usize>
+    pub fn finish(self) -> Result<usize, OutputTooShort>
         ensures answer { result ≡ fitted (length self.entry.area.now) self.entry.len }
         ensures area { self.exit.0.now ≡ closed (length self.entry.area.now) self.entry.len (take self.entry.len self.entry.area.now) }
         ensures says { (lent : MutBor (List ℕ)) (text : List ℕ) → Holds self.entry lent text → result ≡ fitted (length lent.now) (length text) }
@@ -81,7 +80,7 @@ impl<'a> Output<'a> {
         let Output { area, len } = self;
         if len > area.len() {
             area.fill(0);
-            return Err(len);
+            return Err(OutputTooShort { needed: len });
         }
         area[len..].fill(0);
         Ok(len)
