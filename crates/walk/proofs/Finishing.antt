@@ -12,6 +12,7 @@ use Rattle.source.specs.Shapes.{shapes, values}
 use Rattle.references.specs.declared.error.PropertyError.{PropertyError}
 use Rattle.references.specs.declared.error.PropertyError.TheVariants as E
 use Rattle.items.specs.Pieces.{Piece, literal, spelled}
+use Rattle.answers.specs.declared.OutputTooShort.{OutputTooShort as TooShort}
 use Rattle.answers.specs.Told.{Told, unchanged, replaced, refused, answer_of, area_of, fitting, fronted}
 use Rattle.text.specs.Texts.{text_max}
 use Rattle.walk.specs.declared.marks.Marks.{Marks}
@@ -51,10 +52,10 @@ answer_told (Ok r) false text = refl
 answer_told (Err e) changed text = refl
 
 module _ (n : ℕ) (text : List ℕ) (h : length text < 2 ^ 64) where
-  answer_fits : (walked : Result (Unit {0}) PropertyError) (changed : Bool) (fit : Result ℕ ℕ) → fit ≡ fitted n (length text) → answer_fit walked changed fit ≡ answer_of (fitting n OutputTooShort text (told_of walked changed text))
+  answer_fits : (walked : Result (Unit {0}) PropertyError) (changed : Bool) (fit : Result ℕ TooShort) → fit ≡ fitted n (length text) → answer_fit walked changed fit ≡ answer_of (fitting n OutputTooShort text (told_of walked changed text))
   answer_fits walked changed fit e = ap (answer_fit walked changed) e ∙ go (leb (length text) n)
     where
-      go : (b : Bool) → answer_fit walked changed (cond b (Ok (length text)) (Err (counted (length text)))) ≡ answer_of (cond b (told_of walked changed text) (refused (OutputTooShort (length text)) []))
+      go : (b : Bool) → answer_fit walked changed (cond b (Ok (length text)) (Err (record { needed = counted (length text) }))) ≡ answer_of (cond b (told_of walked changed text) (refused (OutputTooShort (length text)) []))
       go true = answer_told walked changed text
       go false = ap (λ k. Err (OutputTooShort k)) (counted_short (length text) h)
 
@@ -77,7 +78,7 @@ none_fits n x = cond-true _ _ _ (le-leb 0 n (omega arith))
 pub record EndOf (v : List ℕ → List ℕ) (lent : MutBor (List ℕ)) (whole : Outcome) (w : WorkBudget) (walked : Result (Unit {0}) PropertyError) (changed : Bool) (out : Output) : Type 0 where
   pub text : List ℕ
   pub holds : Holds out lent text
-  pub answers : (fit : Result ℕ ℕ) → fit ≡ fitted (length lent.now) (length text) → answer_fit walked changed fit ≡ answer_of (told_by v (length lent.now) whole)
+  pub answers : (fit : Result ℕ TooShort) → fit ≡ fitted (length lent.now) (length text) → answer_fit walked changed fit ≡ answer_of (told_by v (length lent.now) whole)
   pub area : closed (length lent.now) (length text) text ≡ area_of (length lent.now) (told_by v (length lent.now) whole)
   pub total : w.total ≡ total_left whole
 

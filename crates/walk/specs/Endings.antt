@@ -6,6 +6,7 @@ use Rattle.references.specs.declared.error.PropertyError.{PropertyError}
 use Rattle.references.specs.declared.error.PropertyError.TheVariants as E
 use Rattle.output.specs.declared.Output.{Output}
 use Rattle.output.specs.Outputs.{Holds}
+use Rattle.answers.specs.declared.OutputTooShort.{OutputTooShort as TooShort}
 use Rattle.answers.specs.declared.Answer.{Answer}
 use Rattle.answers.specs.declared.Answer.TheVariants.{Unchanged, Replaced}
 use Rattle.walk.specs.declared.interpolate.InterpolateError.{InterpolateError}
@@ -39,9 +40,9 @@ answer_by (Ok r) true len = Ok (Replaced len)
 answer_by (Ok r) false len = Ok Unchanged
 answer_by (Err e) changed len = Err (Refused e)
 
-abbrev pub answer_fit : Result (Unit {0}) PropertyError → Bool → Result ℕ ℕ → Result Answer InterpolateError
+abbrev pub answer_fit : Result (Unit {0}) PropertyError → Bool → Result ℕ TooShort → Result Answer InterpolateError
 answer_fit walked changed (Ok len) = answer_by walked changed len
-answer_fit walked changed (Err needed) = Err (OutputTooShort needed)
+answer_fit walked changed (Err short) = Err (OutputTooShort short.needed)
 
 -- the answer for a text without `$`, by whether its charge was taken
 abbrev pub answer_kept : Result (Unit {0}) WorkFault → Result Answer InterpolateError

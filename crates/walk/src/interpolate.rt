@@ -2,18 +2,20 @@ ghost use Rattle.std.specs.Prelude.{◌≡◌, ◌<◌, ◌≤◌, [], ◌∷◌
 ghost use Rattle.text.specs.Texts.{text_max};
 ghost use Rattle.budget.specs.Charges.{paid, spent};
 ghost use Rattle.source.specs.Shapes.{values};
+ghost use Rattle.references.specs.declared.error.PropertyError.TheVariants.{ExpansionWorkLimitExceeded};
 ghost use Rattle.answers.specs.Told.{answer_of, area_of};
 ghost use Rattle.expansion.specs.Events.{first_dollar};
 ghost use Rattle.expansion.specs.Trials.{Trials};
 ghost use Rattle.expansion.specs.WalkLaws.{WalkLaws};
 ghost use Rattle.walk.specs.Endings.{Settles, answer_fit, answer_kept, has_text};
+ghost use Rattle.walk.specs.declared.interpolate.InterpolateError.TheVariants.{OutputTooShort as ShortRefusal, Refused};
 ghost use Rattle.walk.specs.Outcomes.{call_told, call_total, frames_needed, told_by, total_left, walk_of};
 
 use crate::frame::ExpansionFrame;
 use crate::frames::walk_text;
 use crate::marks::Marks;
-use answers::Answer;
-use budget::WorkBudget;
+use answers::{Answer, OutputTooShort};
+use budget::{WorkBudget, WorkFault};
 use names::PropertySyntax;
 use output::Output;
 use references::error::PropertyError;
@@ -33,6 +35,30 @@ pub enum InterpolateError {
     Refused(PropertyError),
     // How many bytes the output area would need.
     OutputTooShort(usize),
+}
+
+impl From<WorkFault> for InterpolateError {
+    ghost from_gives = { λ f r. r ≡ Refused (ExpansionWorkLimitExceeded f.work f.limit) };
+
+    fn from(fault: WorkFault) -> Self {
+        InterpolateError::Refused(PropertyError::from(fault))
+    }
+}
+
+impl From<PropertyError> for InterpolateError {
+    ghost from_gives = { λ e r. r ≡ Refused e };
+
+    fn from(error: PropertyError) -> Self {
+        InterpolateError::Refused(error)
+    }
+}
+
+impl From<OutputTooShort> for InterpolateError {
+    ghost from_gives = { λ short r. r ≡ ShortRefusal short.needed };
+
+    fn from(short: OutputTooShort) -> Self {
+        InterpolateError::OutputTooShort(short.needed)
+    }
 }
 
 // Whether the output area is to keep what was put out: a new text, or a message.
@@ -59,21 +85,17 @@ fn settle(walked: Result<(), PropertyError>, changed: bool, out: &mut Output<'_>
 fn answer(
     walked: Result<(), PropertyError>,
     changed: bool,
-    fit: Result<usize, usize>,
+    fit: Result<usize, OutputTooShort>,
 ) -> Result<Answer, InterpolateError>
     ensures { result ≡ answer_fit walked changed fit }
 {
-    match (fit, walked) {
-        (Err(needed), _) => Err(InterpolateError::OutputTooShort(needed)),
-        (Ok(_), Err(error)) => Err(InterpolateError::Refused(error)),
-        (Ok(len), Ok(())) => {
-            if changed {
-                Ok(Answer::Replaced(len))
-            } else {
-                Ok(Answer::Unchanged)
-            }
-        }
-    }
+    let len = fit?;
+    walked?;
+    Ok(if changed {
+        Answer::Replaced(len)
+    } else {
+        Answer::Unchanged
+    })
 }
 
 // Walks a text whose first `$` is at `first`.
@@ -117,10 +139,8 @@ fn keep_text(len: usize, work: &mut WorkBudget, area: &mut [u8]) -> Result<Answe
     ensures area { area.new ≡ replicate (length area.old) 0 }
 {
     area.fill(0);
-    match work.charge(len) {
-        Ok(()) => Ok(Answer::Unchanged),
-        Err(fault) => Err(InterpolateError::Refused(PropertyError::from(fault))),
-    }
+    work.charge(len)?;
+    Ok(Answer::Unchanged)
 }
 
 // How many frames a text of n bytes needs.
