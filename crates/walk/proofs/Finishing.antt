@@ -15,13 +15,13 @@ use Rattle.items.specs.Pieces.{Piece, literal, spelled}
 use Rattle.answers.specs.declared.OutputTooShort.{OutputTooShort as TooShort}
 use Rattle.answers.specs.Told.{Told, unchanged, replaced, refused, answer_of, area_of, fitting, fronted}
 use Rattle.text.specs.Texts.{text_max}
-use Rattle.walk.specs.declared.marks.Marks.{Marks}
+use Rattle.walk.specs.declared.state.Walk.{Walk}
 use Rattle.expansion.specs.Events.{emits, events, first_dollar}
 use Rattle.expansion.specs.Walks.{Limits, Outcome, ended, run, stopped, walk}
 use Rattle.expansion.specs.Lengths.{Short}
 use Rattle.expansion.proofs.EndLaws.{run_emits}
 use Rattle.expansion.proofs.LengthLaws.{text_bounded}
-use Rattle.walk.specs.Frames.{Goes, Reached, Tells, state}
+use Rattle.walk.specs.Frames.{Aim, Goes, Reached, Tells}
 use Rattle.walk.specs.Endings.{Settles, answer_by, answer_fit, answer_kept, has_message, has_text, kept}
 use Rattle.walk.specs.Outcomes.{call_told, call_total, frames_needed, limits, told_by, total_left, unless_refused, walk_of}
 use Rattle.walk.proofs.Runs.{after, run_charges}
@@ -35,6 +35,10 @@ kept_all false out lent text e h = let z : ◌≡◌ {A = ℕ} 0 1 = cc in absur
 pub kept_none : (b : Bool) (out : Output) (lent : MutBor (List ℕ)) (text : List ℕ) → b ≡ false → Holds out lent [] → Holds out lent (kept b text)
 kept_none false out lent text e h = h
 kept_none true out lent text e h = let z : ◌≡◌ {A = ℕ} 0 1 = cc in absurd (omega arith)
+
+-- an output that is settled once its loan is over
+pub settles_back : (b : Bool) (out before last : Output) → before ≡ out → Settles b before last → Settles b out last
+settles_back b out before last e s = subst (λ o. Settles b o last) e s
 
 -- A length below 2^64 is counted as it is.
 counted_short : (n : ℕ) → n < 2 ^ 64 → counted n ≡ n
@@ -103,35 +107,44 @@ countable means s most t text short small = go (walk (shapes means) s most t tex
     go (ended u c ps) e = omega (arith, text_bounded means s most t u text c ps short e)
     go (stopped u x told) e = tt
 
-module _ (means : List ℕ → Option (List ℕ)) (deep : ℕ) (lent : MutBor (List ℕ)) (whole : Outcome) (w : WorkBudget) (marks : Marks) (out out' : Output) where
-  ended_as : (b : Bool) (ps : List Piece) → Countable (values means) (ended w.total b ps) → Holds out lent (spelled (values means) ps) → Settles b out out' → EndOf (values means) lent (ended w.total b ps) w (Ok tt) b out'
+module _ (means : List ℕ → Option (List ℕ)) (deep : ℕ) (aim : Aim) (now : Walk) (out' : Output) where
+  ended_as : (b : Bool) (ps : List Piece) → Countable (values means) (ended now.work.total b ps) → Holds now.out.now aim.lent (spelled (values means) ps) → Settles b now.out.now out' → EndOf (values means) aim.lent (ended now.work.total b ps) now.work (Ok tt) b out'
   ended_as true ps short h s =
       record {
         text = spelled (values means) ps;
-        holds = s lent _ h;
-        answers = λ fit e. answer_fits (length lent.now) _ short (Ok tt) true fit e;
-        area = area_fits (length lent.now) _ (replaced _) refl;
+        holds = s aim.lent _ h;
+        answers = λ fit e. answer_fits (length aim.lent.now) _ short (Ok tt) true fit e;
+        area = area_fits (length aim.lent.now) _ (replaced _) refl;
         total = refl;
       }
   ended_as false ps short h s =
       record {
         text = [];
-        holds = s lent _ h;
-        answers = λ fit e. answer_fits (length lent.now) [] (omega arith) (Ok tt) false fit e ∙ ap answer_of (none_fits (length lent.now) unchanged);
-        area = area_fits (length lent.now) [] unchanged (sym (zeros_all (length lent.now))) ∙ ap (area_of (length lent.now)) (none_fits (length lent.now) unchanged);
+        holds = s aim.lent _ h;
+        answers = λ fit e. answer_fits (length aim.lent.now) [] (omega arith) (Ok tt) false fit e ∙ ap answer_of (none_fits (length aim.lent.now) unchanged);
+        area = area_fits (length aim.lent.now) [] unchanged (sym (zeros_all (length aim.lent.now))) ∙ ap (area_of (length aim.lent.now)) (none_fits (length aim.lent.now) unchanged);
         total = refl;
       }
 
-  pub end_of : (walked : Result (Unit {0}) PropertyError) → Countable (values means) whole → Goes means deep lent whole 0 [] (state w marks out) walked → Settles (has_text walked marks.changed) out out' → EndOf (values means) lent whole w walked marks.changed out'
+  -- the limit of its work is as it was, and its output is that which was lent
+  pub same_limit : (walked : Result (Unit {0}) PropertyError) → Goes means deep aim 0 [] now walked → now.work.limit ≡ aim.limit
+  same_limit (Ok x) r = r.limit
+  same_limit (Err x) r = r.limit
+
+  pub same_loan : (walked : Result (Unit {0}) PropertyError) → Goes means deep aim 0 [] now walked → now.out.ghost_name ≡ aim.loan
+  same_loan (Ok x) r = r.loan
+  same_loan (Err x) r = r.loan
+
+  pub end_of : (walked : Result (Unit {0}) PropertyError) → Countable (values means) aim.whole → Goes means deep aim 0 [] now walked → Settles (has_text walked now.marks.changed) now.out.now out' → EndOf (values means) aim.lent aim.whole now.work walked now.marks.changed out'
   unfolding run
   end_of (Ok x) short r s =
-      subst (λ o. EndOf (values means) lent o w (Ok x) marks.changed out') r.goes (ended_as marks.changed r.pieces (subst (Countable (values means)) (sym r.goes) short) r.holds s)
+      subst (λ o. EndOf (values means) aim.lent o now.work (Ok x) now.marks.changed out') r.goes (ended_as now.marks.changed r.pieces (subst (Countable (values means)) (sym r.goes) short) r.holds s)
   end_of (Err x) short r s =
-      subst (λ o. EndOf (values means) lent o w (Err x) marks.changed out') (sym r.is) (record {
+      subst (λ o. EndOf (values means) aim.lent o now.work (Err x) now.marks.changed out') (sym r.is) (record {
         text = r.told;
-        holds = told_kept lent out out' x r.told r.old r.tells r.holds s;
-        answers = λ fit e. answer_fits (length lent.now) r.told r.short (Err x) marks.changed fit e;
-        area = area_fits (length lent.now) r.told (refused (Refused x) r.told) refl;
+        holds = told_kept aim.lent now.out.now out' x r.told r.old r.tells r.holds s;
+        answers = λ fit e. answer_fits (length aim.lent.now) r.told r.short (Err x) now.marks.changed fit e;
+        area = area_fits (length aim.lent.now) r.told (refused (Refused x) r.told) refl;
         total = refl;
       })
 
@@ -147,10 +160,22 @@ module _ (n slots : ℕ) (small : n ≤ text_max) (enough : frames_needed n ≤ 
   passed_total t whole = passed _ _ _
 
 -- where a walk begins
-pub start : (means : List ℕ → Option (List ℕ)) (deep : ℕ) (s : PropertySyntax) (lent : MutBor (List ℕ)) (text : List ℕ) (w : WorkBudget) (out : Output) → length text ≤ text_max → Holds out lent []
-    → Reached means deep lent (walk (shapes means) s (limits deep w.limit) w.total text) (length text) (events (shapes means) s text) (state w (record { changed = false; shows = false }) out)
+abbrev pub aim_of : (List ℕ → Option (List ℕ)) → ℕ → PropertySyntax → MutBor (List ℕ) → List ℕ → Walk → Aim
+aim_of means deep s lent text begun = record { loan = begun.out.ghost_name; lent = lent; limit = begun.work.limit; whole = walk_of means s deep begun.work text }
+
+pub start : (means : List ℕ → Option (List ℕ)) (deep : ℕ) (s : PropertySyntax) (lent : MutBor (List ℕ)) (text : List ℕ) (begun : Walk) → begun.marks.changed ≡ false → begun.marks.shows ≡ false → length text ≤ text_max → Holds begun.out.now lent []
+    → Reached means deep (aim_of means deep s lent text begun) (length text) (events (shapes means) s text) begun
 unfolding walk
-start means deep s lent text w out l h = record { pieces = []; goes = refl; marked = refl; holds = h; few = omega arith }
+start means deep s lent text begun same hidden l h =
+    record {
+      loan = refl;
+      limit = refl;
+      pieces = [];
+      goes = ap (λ b. run (shapes means) (limits deep begun.work.limit) begun.work.total b [] (events (shapes means) s text)) same;
+      marked = hidden;
+      holds = h;
+      few = omega arith;
+    }
 
 -- the outcome for a text without `$`, by whether its charge was taken
 abbrev plain_by : List ℕ → ℕ → Work → Outcome

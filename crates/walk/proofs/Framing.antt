@@ -16,10 +16,10 @@ use Rattle.items.specs.declared.action.Step.{Step}
 use Rattle.items.specs.Items.{Act, keep, replace, select, require, refuse, Item, item}
 use Rattle.items.specs.Looks.{Ends, Looked, act_of, acted, charges_at, judged, look, looking, some_looked, step_of, with_next}
 use Rattle.output.specs.declared.Output.{Output}
-use Rattle.walk.specs.declared.marks.Marks.{Marks}
+use Rattle.walk.specs.declared.state.Walk.{Walk}
 use Rattle.expansion.specs.Events.{Event, acts, charges, frame}
-use Rattle.expansion.specs.Walks.{Outcome, run}
-use Rattle.walk.specs.Frames.{Proper, Reached, Selectable, Stopped, Tells, room_of, state, text_of}
+use Rattle.expansion.specs.Walks.{run}
+use Rattle.walk.specs.Frames.{Aim, Proper, Reached, Selectable, Stopped, Tells, room_of, text_of, worked}
 use Rattle.walk.proofs.ActLaws.{Fine, Plain, Tail, item_fine}
 use Rattle.walk.proofs.Reaching.{reach_charges, reach_same, stop_charges}
 
@@ -116,46 +116,46 @@ tells_plain out lent (E.RequiredButEmpty name len) p = absurd p
 tells_plain out lent (E.ExpansionDepthLimitExceeded depth limit) p = absurd p
 tells_plain out lent (E.ExpansionWorkLimitExceeded work limit) p = absurd p
 
-module _ {means : List ℕ → Option (List ℕ)} {deep : ℕ} {lent : MutBor (List ℕ)} {whole : Outcome} {left : ℕ} {w w' : WorkBudget} {marks : Marks} {out : Output} (nested : ℕ → List ℕ → List Event → List Event) (d : ℕ) (s : PropertySyntax) (i : ℕ) (xs : List ℕ) (es : List Event)
-    (spends : w' ≡ spent w (charges_at (shapes means) s i (drop i xs))) (r : Reached means deep lent whole left (frame nested d s (shapes means) i (drop i xs) 0 es) (state w marks out)) where
+module _ {means : List ℕ → Option (List ℕ)} {deep : ℕ} {aim : Aim} {left : ℕ} {now : Walk} {w : WorkBudget} (nested : ℕ → List ℕ → List Event → List Event) (d : ℕ) (s : PropertySyntax) (i : ℕ) (xs : List ℕ) (es : List Event)
+    (spends : w ≡ spent now.work (charges_at (shapes means) s i (drop i xs))) (r : Reached means deep aim left (frame nested d s (shapes means) i (drop i xs) 0 es) now) where
   -- the frame's end
-  pub reach_end : drop i xs ≡ [] → Reached means deep lent whole left es (state w' marks out)
+  pub reach_end : drop i xs ≡ [] → Reached means deep aim left es (worked w now)
   unfolding frame
   reach_end e =
-      let same : w' ≡ w = spends ∙ ap (λ l. spent w (charges_at (shapes means) s i l)) e in
-      subst (λ v. Reached means deep lent whole left es (state v marks out)) (sym same) (reach_same (ap (λ l. frame nested d s (shapes means) i l 0 es) e) r)
+      let same : w ≡ now.work = spends ∙ ap (λ l. spent now.work (charges_at (shapes means) s i l)) e in
+      subst (λ v. Reached means deep aim left es (worked v now)) (sym same) (reach_same (ap (λ l. frame nested d s (shapes means) i l 0 es) e) r)
 
   -- a step
-  pub reach_step : (p : Step) → Found (shapes means) s w i xs p
-      → Reached means deep lent whole left (acts nested d s (act_of (p.next - 1) p.action) (frame nested d s (shapes means) p.next (drop p.next xs) 0 es)) (state w' marks out)
+  pub reach_step : (p : Step) → Found (shapes means) s now.work i xs p
+      → Reached means deep aim left (acts nested d s (act_of (p.next - 1) p.action) (frame nested d s (shapes means) p.next (drop p.next xs) 0 es)) (worked w now)
   reach_step p f =
       let it : Item = item (shapes means) s i f.byte f.behind in
-      let on = reach_charges _ it.looks f.total (spends ∙ ap (λ l. spent w (charges_at (shapes means) s i l)) f.at) f.paid (reach_same (frame_item nested d s (shapes means) i f.byte f.behind xs es f.at) r) in
+      let on = reach_charges _ it.looks f.total (spends ∙ ap (λ l. spent now.work (charges_at (shapes means) s i l)) f.at) f.paid (reach_same (frame_item nested d s (shapes means) i f.byte f.behind xs es f.at) r) in
       reach_same (ap₂ (λ a n. acts nested d s a (frame nested d s (shapes means) n (drop n xs) 0 es)) (sym f.does) (sym f.ends)) on
 
-  stop_by : {marks' : Marks} (e : PropertyError) (b : ℕ) (bs : List ℕ) → drop i xs ≡ b ∷ bs → (v : Work) → works w (item (shapes means) s i b bs).looks ≡ v → (a : Act) → (item (shapes means) s i b bs).act ≡ a
-      → Err e ≡ some_looked (judged v w.limit (with_next (acted a) (i + 1 + (item (shapes means) s i b bs).more))) → Stopped lent whole (state w' marks' out) e
+  stop_by : (e : PropertyError) (b : ℕ) (bs : List ℕ) → drop i xs ≡ b ∷ bs → (v : Work) → works now.work (item (shapes means) s i b bs).looks ≡ v → (a : Act) → (item (shapes means) s i b bs).act ≡ a
+      → Err e ≡ some_looked (judged v now.work.limit (with_next (acted a) (i + 1 + (item (shapes means) s i b bs).more))) → Stopped aim (worked w now) e
   unfolding run
-  stop_by {marks'} e b bs at (over t) h a g q =
-      let is : e ≡ E.ExpansionWorkLimitExceeded t w.limit = cc in
-      subst (Stopped lent whole (state w' marks' out)) (sym is) (stop_charges _ _ t (spends ∙ ap (λ l. spent w (charges_at (shapes means) s i l)) at) h (reach_same (frame_item nested d s (shapes means) i b bs xs es at) r))
-  stop_by {marks'} e b bs at (taken t) h (refuse x) g q =
+  stop_by e b bs at (over t) h a g q =
+      let is : e ≡ E.ExpansionWorkLimitExceeded t now.work.limit = cc in
+      subst (Stopped aim (worked w now)) (sym is) (stop_charges _ _ t (spends ∙ ap (λ l. spent now.work (charges_at (shapes means) s i l)) at) h (reach_same (frame_item nested d s (shapes means) i b bs xs es at) r))
+  stop_by e b bs at (taken t) h (refuse x) g q =
       let is : e ≡ x = cc in
       let fine : Plain x = subst (Fine (b ∷ bs) (item (shapes means) s i b bs).more) g (item_fine (shapes means) s i b bs) in
-      let on = reach_charges _ _ t (spends ∙ ap (λ l. spent w (charges_at (shapes means) s i l)) at) h (reach_same (frame_item nested d s (shapes means) i b bs xs es at) r) in
+      let on = reach_charges _ _ t (spends ∙ ap (λ l. spent now.work (charges_at (shapes means) s i l)) at) h (reach_same (frame_item nested d s (shapes means) i b bs xs es at) r) in
       let end = reach_same (ap (λ a. acts nested d s a (frame nested d s (shapes means) (i + 1 + (item (shapes means) s i b bs).more) (drop (i + 1 + (item (shapes means) s i b bs).more) xs) 0 es)) g) on in
-      subst (Stopped lent whole (state w' marks' out)) (sym is) (record { told = []; is = sym end.goes; short = omega arith; tells = tells_plain out lent x fine; old = spelled (values means) end.pieces; holds = end.holds })
+      subst (Stopped aim (worked w now)) (sym is) (record { loan = end.loan; limit = end.limit; told = []; is = sym end.goes; short = omega arith; tells = tells_plain now.out.now aim.lent x fine; old = spelled (values means) end.pieces; holds = end.holds })
   stop_by e b bs at (taken t) h (keep x) g q = let z : ◌≡◌ {A = ℕ} 0 1 = cc in absurd (omega arith)
   stop_by e b bs at (taken t) h (replace x) g q = let z : ◌≡◌ {A = ℕ} 0 1 = cc in absurd (omega arith)
   stop_by e b bs at (taken t) h (select x y) g q = let z : ◌≡◌ {A = ℕ} 0 1 = cc in absurd (omega arith)
   stop_by e b bs at (taken t) h (require x y u v) g q = let z : ◌≡◌ {A = ℕ} 0 1 = cc in absurd (omega arith)
 
-  stop_in : {marks' : Marks} (e : PropertyError) (ys : List ℕ) → drop i xs ≡ ys → Err e ≡ look (shapes means) s i w ys → Stopped lent whole (state w' marks' out) e
+  stop_in : (e : PropertyError) (ys : List ℕ) → drop i xs ≡ ys → Err e ≡ look (shapes means) s i now.work ys → Stopped aim (worked w now) e
   stop_in e [] at q = let z : ◌≡◌ {A = ℕ} 0 1 = cc in absurd (omega arith)
   stop_in e (b ∷ bs) at q = stop_by e b bs at _ refl _ refl q
 
   -- a refusal
-  pub stop_look : {marks' : Marks} (e : PropertyError) → Err e ≡ look (shapes means) s i w (drop i xs) → Stopped lent whole (state w' marks' out) e
+  pub stop_look : (e : PropertyError) → Err e ≡ look (shapes means) s i now.work (drop i xs) → Stopped aim (worked w now) e
   stop_look e q = stop_in e (drop i xs) refl q
 
 -- ## Where a step lies

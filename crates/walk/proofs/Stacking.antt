@@ -1,5 +1,5 @@
 -- The frames that are open, with one more on top.
-use Rattle.std.proofs.Common.{◌≡◌, ℕ, suc, ◌+◌, ◌-◌, ◌<◌, cond, ltb, List, [], ◌∷◌, ◌++◌, length, is_ok, None, Ok, Err, Option, Result, sym, refl, ap, ◌∙◌, subst, ap₂, add-zero, zero-add, arith, length-append, MutBor}
+use Rattle.std.proofs.Common.{◌≡◌, ℕ, suc, ◌+◌, ◌-◌, ◌<◌, cond, ltb, List, [], ◌∷◌, ◌++◌, length, is_ok, None, Ok, Err, Option, Result, sym, refl, ap, ◌∙◌, subst, ap₂, add-zero, zero-add, arith, length-append}
 use Rattle.std.proofs.lemmas.Bool.{lt-ltb}
 use Rattle.std.specs.List.{slice_get}
 use Rattle.stack.specs.declared.Stack.{Stack}
@@ -7,9 +7,9 @@ use Rattle.stack.specs.Held.{held, memory, offered}
 use Rattle.references.specs.declared.error.PropertyError.{PropertyError}
 use Rattle.source.specs.Shapes.{Shape, shapes}
 use Rattle.walk.specs.declared.frame.ExpansionFrame.{ExpansionFrame}
+use Rattle.walk.specs.declared.state.Walk.{Walk}
 use Rattle.expansion.specs.Events.{Event}
-use Rattle.expansion.specs.Walks.{Outcome}
-use Rattle.walk.specs.Frames.{Nests, Reached, State, completed, frame_events, moved, part, rest}
+use Rattle.walk.specs.Frames.{Aim, Nests, Reached, completed, frame_events, moved, part, rest}
 use Rattle.walk.specs.Stacks.{Fit, Runs, Sound, Sound1, Turned, Turns, events_at, left, pending}
 use Rattle.walk.proofs.Reaching.{reach_less, reach_same}
 
@@ -105,16 +105,16 @@ module _ {text : List ℕ} {slots : ℕ} (xs : List ExpansionFrame) (x : Expansi
   fueled = omega (arith, deep_enough)
 
   -- how the events of the newest frame stand
-  module _ {means : List ℕ → Option (List ℕ)} {deep : ℕ} {lent : MutBor (List ℕ)} {whole : Outcome} {now : State} (d : ℕ) (depth : d ≡ length xs + 1) where
-    pub reach_newest : Reached means deep lent whole (left (xs ++ x ∷ [])) (pending (shapes means) text 0 (xs ++ x ∷ []) []) now
-        → Reached means deep lent whole (rest x + left xs) (frame_events (shapes means) text (suc fuel) d x (completed x.completion (part text x.start x.end) (pending (shapes means) text 0 xs []))) now
+  module _ {means : List ℕ → Option (List ℕ)} {deep : ℕ} {aim : Aim} {now : Walk} (d : ℕ) (depth : d ≡ length xs + 1) where
+    pub reach_newest : Reached means deep aim (left (xs ++ x ∷ [])) (pending (shapes means) text 0 (xs ++ x ∷ []) []) now
+        → Reached means deep aim (rest x + left xs) (frame_events (shapes means) text (suc fuel) d x (completed x.completion (part text x.start x.end) (pending (shapes means) text 0 xs []))) now
     reach_newest r =
         let l = left_more xs x in
         reach_same (pending_top (shapes means) text xs x ∙ ap₂ (λ f e. frame_events (shapes means) text f e x (completed x.completion (part text x.start x.end) (pending (shapes means) text 0 xs []))) fueled (sym depth)) (reach_less (rest x + left xs) (omega arith) r)
 
     pub reach_nested : (k : ℕ) (n : ExpansionFrame)
-        → Reached means deep lent whole (rest n + (rest (moved x k) + left xs)) (frame_events (shapes means) text fuel (d + 1) n (completed n.completion (part text n.start n.end) (frame_events (shapes means) text (suc fuel) d (moved x k) (completed x.completion (part text x.start x.end) (pending (shapes means) text 0 xs []))))) now
-        → Reached means deep lent whole (left ((xs ++ moved x k ∷ []) ++ n ∷ [])) (pending (shapes means) text 0 ((xs ++ moved x k ∷ []) ++ n ∷ []) []) now
+        → Reached means deep aim (rest n + (rest (moved x k) + left xs)) (frame_events (shapes means) text fuel (d + 1) n (completed n.completion (part text n.start n.end) (frame_events (shapes means) text (suc fuel) d (moved x k) (completed x.completion (part text x.start x.end) (pending (shapes means) text 0 xs []))))) now
+        → Reached means deep aim (left ((xs ++ moved x k ∷ []) ++ n ∷ [])) (pending (shapes means) text 0 ((xs ++ moved x k ∷ []) ++ n ∷ []) []) now
     reach_nested k n r =
         let y = moved x k in
         let ys = xs ++ moved x k ∷ [] in
@@ -132,11 +132,9 @@ turns_by (Ok x) h = h
 turns_by (Err e) h = tt
 
 -- the frames before were walked on, to those after
-pub record Walked (means : List ℕ → Option (List ℕ)) (deep : ℕ) (text : List ℕ) (frames : Stack ExpansionFrame) (before : State) (frames' : Stack ExpansionFrame) (after : State) : Type 0 where
+pub record Walked (means : List ℕ → Option (List ℕ)) (deep : ℕ) (text : List ℕ) (frames : Stack ExpansionFrame) (before : Walk) (frames' : Stack ExpansionFrame) (after : Walk) : Type 0 where
   pub fit : Fit text (length (memory frames')) (held frames')
   pub goes : Runs means deep text (held frames) before (held frames') after (Ok tt)
-  pub limit : after.work.limit ≡ before.work.limit
-  pub memory : length (memory frames') ≡ length (memory frames)
 
 last_there : {T : Type 0} (x : T) (xs : List T) → slice_get (x ∷ xs) (length xs) ≡ None → ⊥
 last_there x [] e = let z : ◌≡◌ {A = ℕ} 0 1 = cc in omega arith

@@ -1,5 +1,5 @@
 -- A frame is walked on, step by step.
-use Rattle.std.proofs.Common.{◌≡◌, ℕ, suc, ◌+◌, ◌-◌, ◌≤◌, List, length, take, drop, Some, None, Ok, Err, Option, Result, sym, refl, ap, ◌∙◌, subst, arith, MutBor}
+use Rattle.std.proofs.Common.{◌≡◌, ℕ, suc, ◌+◌, ◌-◌, ◌≤◌, List, length, take, drop, Some, None, Ok, Err, Option, Result, sym, refl, ap, ◌∙◌, subst, arith}
 use Rattle.std.proofs.lemmas.List.{length-take-le, take-take}
 use Rattle.budget.specs.declared.WorkBudget.{WorkBudget}
 use Rattle.budget.specs.Charges.{spent}
@@ -11,21 +11,18 @@ use Rattle.items.specs.declared.action.Action.TheVariants.{Keep, Dollar, Propert
 use Rattle.items.specs.declared.action.Step.{Step}
 use Rattle.items.specs.Items.{inner}
 use Rattle.items.specs.Looks.{AskedLook, Ends, Stays, charges_at, look, looked_told}
-use Rattle.output.specs.declared.Output.{Output}
 use Rattle.walk.specs.declared.frame.ExpansionFrame.{ExpansionFrame}
-use Rattle.walk.specs.declared.marks.Marks.{Marks}
+use Rattle.walk.specs.declared.state.Walk.{Walk}
 use Rattle.expansion.specs.Events.{Event, frame, trace}
-use Rattle.expansion.specs.Walks.{Outcome}
-use Rattle.walk.specs.Frames.{Applied, Applies, Askable, Framed, Nests, Onward, OpensAt, Reached, State, Stopped, completed, completion_of, frame_events, frame_of, moved, part, rest, room_of, state, text_of}
+use Rattle.walk.specs.Frames.{Aim, Applied, Applies, Askable, Framed, Nests, Onward, OpensAt, Reached, Stopped, completed, completion_of, frame_events, frame_of, moved, part, rest, room_of, text_of, worked}
 use Rattle.walk.proofs.Framing.{Found, Lies, found, found_lies, found_none, reach_end, reach_step, stop_look}
 use Rattle.walk.proofs.Reaching.{reach_less, reach_same}
 
 -- the frame x was walked on to y
-pub record Walking (means : List ℕ → Option (List ℕ)) (deep : ℕ) (text : List ℕ) (d : ℕ) (x : ExpansionFrame) (before : State) (y : ExpansionFrame) (after : State) : Type 0 where
+pub record Walking (means : List ℕ → Option (List ℕ)) (deep : ℕ) (text : List ℕ) (d : ℕ) (x : ExpansionFrame) (before : Walk) (y : ExpansionFrame) (after : Walk) : Type 0 where
   pub frame : y ≡ moved x y.cursor
   pub on : x.cursor ≤ y.cursor
   pub goes : Onward means deep text d x before y after
-  pub limit : after.work.limit ≡ before.work.limit
 
 -- selected text that is walked
 abbrev pub nested_by : (List ℕ → Shape) → (f d : ℕ) → PropertySyntax → ℕ → List ℕ → List Event → List Event
@@ -50,9 +47,9 @@ opens_short close s (Property name len) n i e next h k = absurd h
 opens_short close s Nothing n i e next h k = absurd h
 opens_short close s (Interpolate text completion) n i e next h k = k
 
-module _ {means : List ℕ → Option (List ℕ)} {deep : ℕ} {text : List ℕ} {d : ℕ} {x y : ExpansionFrame} {before : State} {w w₁ : WorkBudget} {marks : Marks} {out : Output}
-    (inv : Walking means deep text d x before y (state w marks out)) (fits : x.end ≤ length text)
-    (spends : w₁ ≡ spent w (charges_at (shapes means) y.syntax y.cursor (drop y.cursor (take x.end text)))) where
+module _ {means : List ℕ → Option (List ℕ)} {deep : ℕ} {text : List ℕ} {d : ℕ} {x y : ExpansionFrame} {before now : Walk} {w : WorkBudget}
+    (inv : Walking means deep text d x before y now) (fits : x.end ≤ length text)
+    (spends : w ≡ spent now.work (charges_at (shapes means) y.syntax y.cursor (drop y.cursor (take x.end text)))) where
   abbrev xs : List ℕ
   xs = take x.end text
 
@@ -65,59 +62,58 @@ module _ {means : List ℕ → Option (List ℕ)} {deep : ℕ} {text : List ℕ}
   at_place : (f k : ℕ) (es : List Event) → trace (suc f) d (shapes means) y.syntax k (part text k y.end) es ≡ frame (nested_by (shapes means) f d y.syntax) d y.syntax (shapes means) k (drop k xs) 0 es
   at_place f k es = trace_is (shapes means) f d y.syntax k (part text k y.end) es ∙ ap (λ e. frame (nested_by (shapes means) f d y.syntax) d y.syntax (shapes means) k (drop k (take e text)) 0 es) same_end
 
-  module _ (f : ℕ) (lent : MutBor (List ℕ)) (whole : Outcome) (left : ℕ) (es : List Event) (r : Reached means deep lent whole (rest x + left) (frame_events (shapes means) text (suc f) d x es) before) where
-    reached : Reached means deep lent whole (rest y + left) (frame (nested_by (shapes means) f d y.syntax) d y.syntax (shapes means) y.cursor (drop y.cursor xs) 0 es) (state w marks out)
-    reached = reach_same (at_place f y.cursor es) (inv.goes f lent whole left es r)
+  module _ (f : ℕ) (aim : Aim) (left : ℕ) (es : List Event) (r : Reached means deep aim (rest x + left) (frame_events (shapes means) text (suc f) d x es) before) where
+    reached : Reached means deep aim (rest y + left) (frame (nested_by (shapes means) f d y.syntax) d y.syntax (shapes means) y.cursor (drop y.cursor xs) 0 es) now
+    reached = reach_same (at_place f y.cursor es) (inv.goes f aim left es r)
 
     -- a look is refused, or finds the end
-    pub walk_stop : (e : PropertyError) → Err e ≡ look (shapes means) y.syntax y.cursor w (drop y.cursor xs) → Stopped lent whole (state w₁ marks out) e
+    pub walk_stop : (e : PropertyError) → Err e ≡ look (shapes means) y.syntax y.cursor now.work (drop y.cursor xs) → Stopped aim (worked w now) e
     walk_stop e says = stop_look (nested_by (shapes means) f d y.syntax) d y.syntax y.cursor xs es spends reached e says
 
-    pub walk_end : (o : Option Step) → o ≡ None → looked_told (Ok o) ≡ look (shapes means) y.syntax y.cursor w (drop y.cursor xs) → Reached means deep lent whole left es (state w₁ marks out)
+    pub walk_end : (o : Option Step) → o ≡ None → looked_told (Ok o) ≡ look (shapes means) y.syntax y.cursor now.work (drop y.cursor xs) → Reached means deep aim left es (worked w now)
     walk_end o is says =
-        let none = found_none (shapes means) y.syntax w y.cursor xs (sym (ap (λ q. looked_told (Ok q)) is) ∙ says) in
+        let none = found_none (shapes means) y.syntax now.work y.cursor xs (sym (ap (λ q. looked_told (Ok q)) is) ∙ says) in
         reach_less left (omega arith) (reach_end (nested_by (shapes means) f d y.syntax) d y.syntax y.cursor xs es spends reached none)
 
-  module _ (o : Option Step) (p : Step) (is : o ≡ Some p) (says : looked_told (Ok o) ≡ look (shapes means) y.syntax y.cursor w (drop y.cursor xs)) (within : Stays (length xs) y.cursor (Ok o)) where
+  module _ (o : Option Step) (p : Step) (is : o ≡ Some p) (says : looked_told (Ok o) ≡ look (shapes means) y.syntax y.cursor now.work (drop y.cursor xs)) (within : Stays (length xs) y.cursor (Ok o)) where
     ends : Ends (length xs) y.cursor p.action p.next
     ends = subst (λ q. Stays (length xs) y.cursor (Ok q)) is within
 
-    step : Found (shapes means) y.syntax w y.cursor xs p
-    step = found (shapes means) y.syntax w y.cursor xs p (sym (ap (λ q. looked_told (Ok q)) is) ∙ says)
+    step : Found (shapes means) y.syntax now.work y.cursor xs p
+    step = found (shapes means) y.syntax now.work y.cursor xs p (sym (ap (λ q. looked_told (Ok q)) is) ∙ says)
 
     lies : Lies y.cursor xs p
-    lies = found_lies (shapes means) y.syntax w y.cursor xs p step ends
+    lies = found_lies (shapes means) y.syntax now.work y.cursor xs p step ends
 
     pub walk_asks : AskedLook means (Ok o) → Askable means (p.next - 1) p.action
     walk_asks asked = record { known = subst (λ q. AskedLook means (Ok q)) is asked; lies = lies.lies }
 
     -- an action was applied
-    module _ (after : State) where
+    module _ (after : Walk) where
       abbrev Did : Result (Option ExpansionFrame) PropertyError → Type 0
-      Did r = (nested : ℕ → List ℕ → List Event → List Event) → Applies means deep nested d y.syntax (p.next - 1) p.action (state w₁ marks out) after r
+      Did r = (nested : ℕ → List ℕ → List Event → List Event) → Applies means deep nested d y.syntax (p.next - 1) p.action (worked w now) after r
 
-      did : (r : Result (Option ExpansionFrame) PropertyError) → Did r → (f : ℕ) (lent : MutBor (List ℕ)) (whole : Outcome) (left : ℕ) (es : List Event)
-          → Reached means deep lent whole (rest x + left) (frame_events (shapes means) text (suc f) d x es) before
-          → Applied means deep (nested_by (shapes means) f d y.syntax) lent whole (rest (moved y p.next) + left) (frame (nested_by (shapes means) f d y.syntax) d y.syntax (shapes means) p.next (drop p.next xs) 0 es)
+      did : (r : Result (Option ExpansionFrame) PropertyError) → Did r → (f : ℕ) (aim : Aim) (left : ℕ) (es : List Event)
+          → Reached means deep aim (rest x + left) (frame_events (shapes means) text (suc f) d x es) before
+          → Applied means deep (nested_by (shapes means) f d y.syntax) aim (rest (moved y p.next) + left) (frame (nested_by (shapes means) f d y.syntax) d y.syntax (shapes means) p.next (drop p.next xs) 0 es)
           (p.next - 1 - length (text_of p.action)) (text_of p.action) (completion_of p.action) after r
-      did r applied f lent whole left es q =
+      did r applied f aim left es q =
           let N = nested_by (shapes means) f d y.syntax in
-          let on = reach_step N d y.syntax y.cursor xs es spends (reached f lent whole left es q) p step in
-          applied N lent whole (rest (moved y p.next) + left) (frame N d y.syntax (shapes means) p.next (drop p.next xs) 0 es) (reach_less (room_of p.action + (rest (moved y p.next) + left)) (omega (arith, lies.room, size, same_end)) on)
+          let on = reach_step N d y.syntax y.cursor xs es spends (reached f aim left es q) p step in
+          applied N aim (rest (moved y p.next) + left) (frame N d y.syntax (shapes means) p.next (drop p.next xs) 0 es) (reach_less (room_of p.action + (rest (moved y p.next) + left)) (omega (arith, lies.room, size, same_end)) on)
 
-      pub walk_refused : (e : PropertyError) → Did (Err e) → (f : ℕ) (lent : MutBor (List ℕ)) (whole : Outcome) (left : ℕ) (es : List Event)
-          → Reached means deep lent whole (rest x + left) (frame_events (shapes means) text (suc f) d x es) before → Stopped lent whole after e
-      walk_refused e applied f lent whole left es q = did (Err e) applied f lent whole left es q
+      pub walk_refused : (e : PropertyError) → Did (Err e) → (f : ℕ) (aim : Aim) (left : ℕ) (es : List Event)
+          → Reached means deep aim (rest x + left) (frame_events (shapes means) text (suc f) d x es) before → Stopped aim after e
+      walk_refused e applied f aim left es q = did (Err e) applied f aim left es q
 
       -- the frame goes on behind it
-      pub walk_on : (q : Option ExpansionFrame) → q ≡ None → Did (Ok q) → after.work.limit ≡ w₁.limit → Walking means deep text d x before (moved y p.next) after
-      walk_on q none applied limit =
+      pub walk_on : (q : Option ExpansionFrame) → q ≡ None → Did (Ok q) → Walking means deep text d x before (moved y p.next) after
+      walk_on q none applied =
           let did_none : Did (Ok None) = subst (λ z. Did (Ok z)) none applied in
           record {
             frame = ap (λ z. moved z p.next) inv.frame;
             on = omega (arith, inv.on, step.ends);
-            goes = λ f lent whole left es r. reach_same (sym (at_place f p.next es)) (did (Ok None) did_none f lent whole left es r);
-            limit = limit ∙ ap (λ (v : WorkBudget). v.limit) spends ∙ inv.limit;
+            goes = λ f aim left es r. reach_same (sym (at_place f p.next es)) (did (Ok None) did_none f aim left es r);
           }
 
       abbrev close : ℕ
@@ -144,9 +140,9 @@ module _ {means : List ℕ → Option (List ℕ)} {deep : ℕ} {text : List ℕ}
             inside = omega (arith, size);
           })
 
-      walk_opened : p.next ≤ length xs → Did (Ok (Some opened)) → (f : ℕ) (lent : MutBor (List ℕ)) (whole : Outcome) (left : ℕ) (es : List Event)
-          → Reached means deep lent whole (rest x + left) (frame_events (shapes means) text (suc f) d x es) before → Framed means deep text lent whole f d left es (moved y p.next) after (Ok (Some opened))
-      walk_opened inside applied f lent whole left es r =
+      walk_opened : p.next ≤ length xs → Did (Ok (Some opened)) → (f : ℕ) (aim : Aim) (left : ℕ) (es : List Event)
+          → Reached means deep aim (rest x + left) (frame_events (shapes means) text (suc f) d x es) before → Framed means deep text aim f d left es (moved y p.next) after (Ok (Some opened))
+      walk_opened inside applied f aim left es r =
           let completion = completion_of p.action in
           let same : chosen ≡ part text (close - length chosen) close = lies.text ∙ ap (drop (close - length chosen)) (take-take close x.end text (omega (arith, size))) in
           let T : List ℕ → List Event → List Event = λ v l. trace f (d + 1) (shapes means) (inner y.syntax) (close - length chosen) v (completed completion v l) in
@@ -154,12 +150,12 @@ module _ {means : List ℕ → Option (List ℕ)} {deep : ℕ} {text : List ℕ}
           let behind = frame N d y.syntax (shapes means) p.next (drop p.next xs) 0 es in
           let fit = lies.fits in
           reach_same (ap (λ v. T v behind) same ∙ ap (T (part text (close - length chosen) close)) (sym (at_place f p.next es)))
-          (reach_less (rest opened + (rest (moved y p.next) + left)) (omega arith) (did (Ok (Some opened)) applied f lent whole left es r))
+          (reach_less (rest opened + (rest (moved y p.next) + left)) (omega arith) (did (Ok (Some opened)) applied f aim left es r))
 
-      pub walk_nested : (n : ExpansionFrame) → OpensAt close y.syntax p.action n → Did (Ok (Some n)) → (f : ℕ) (lent : MutBor (List ℕ)) (whole : Outcome) (left : ℕ) (es : List Event)
-          → Reached means deep lent whole (rest x + left) (frame_events (shapes means) text (suc f) d x es) before → Framed means deep text lent whole f d left es (moved y p.next) after (Ok (Some n))
-      walk_nested n opens applied f lent whole left es r =
+      pub walk_nested : (n : ExpansionFrame) → OpensAt close y.syntax p.action n → Did (Ok (Some n)) → (f : ℕ) (aim : Aim) (left : ℕ) (es : List Event)
+          → Reached means deep aim (rest x + left) (frame_events (shapes means) text (suc f) d x es) before → Framed means deep text aim f d left es (moved y p.next) after (Ok (Some n))
+      walk_nested n opens applied f aim left es r =
           let is = opens_is close y.syntax p.action n opens in
           let short = opens_short close y.syntax p.action n y.cursor (length xs) p.next opens ends in
-          subst (λ z. Framed means deep text lent whole f d left es (moved y p.next) after (Ok (Some z))) (sym is)
-          (walk_opened short.1 (subst (λ z. Did (Ok (Some z))) is applied) f lent whole left es r)
+          subst (λ z. Framed means deep text aim f d left es (moved y p.next) after (Ok (Some z))) (sym is)
+          (walk_opened short.1 (subst (λ z. Did (Ok (Some z))) is applied) f aim left es r)

@@ -1,6 +1,7 @@
 -- What the code of the walk keeps: how far the events have come.
 use Rattle.std.specs.Prelude.{◌≡◌, ℕ, suc, ◌+◌, ◌-◌, ◌^◌, ◌<◌, ◌≤◌, ◌||◌, List, [], ◌∷◌, length, take, drop, Some, None, Ok, Err, Option, Result, ◌==◌, nat_lt}
-use Rattle.std.specs.Borrow.{MutBor}
+use Rattle.std.specs.Borrow.{GName}
+use denote.Ref.{MutBor, at_last}
 use Rattle.budget.specs.declared.WorkBudget.{WorkBudget}
 use Rattle.names.specs.declared.PropertySyntax.{PropertySyntax}
 use Rattle.source.specs.Shapes.{Shape, unset, empty, shapes, values}
@@ -17,6 +18,7 @@ use Rattle.output.specs.declared.Output.{Output}
 use Rattle.output.specs.Outputs.{Holds}
 use Rattle.walk.specs.declared.frame.ExpansionFrame.{ExpansionFrame}
 use Rattle.walk.specs.declared.marks.Marks.{Marks}
+use Rattle.walk.specs.declared.state.Walk.{Walk}
 use Rattle.expansion.specs.Events.{Event, acts, begins, emits, message, nest, replaced, trace}
 use Rattle.expansion.specs.Walks.{Outcome, run, shown, stopped}
 
@@ -33,21 +35,28 @@ completed Append w es = es
 completed (RequiredButUnset name) w es = message unset name w ∷ []
 completed (RequiredButEmpty name) w es = message empty name w ∷ []
 
--- what changes in a walk
-pub record State : Type 0 where
-  pub work : WorkBudget
-  pub marks : Marks
-  pub out : Output
+-- a walk after its work, its marks and its output changed; and after work was done
+abbrev pub changed : WorkBudget → Marks → Output → Walk → Walk
+changed work marks out now = record { work = work; marks = marks; out = at_last now.out out }
 
-abbrev pub state : WorkBudget → Marks → Output → State
-state work marks out = record { work = work; marks = marks; out = out }
+abbrev pub worked : WorkBudget → Walk → Walk
+worked work now = record { work = work; marks = now.marks; out = now.out }
 
--- A walk whose outcome is `whole` has come so far that the events es are left. They put out at most `left` bytes of the text.
-pub record Reached (means : List ℕ → Option (List ℕ)) (deep : ℕ) (lent : MutBor (List ℕ)) (whole : Outcome) (left : ℕ) (es : List Event) (now : State) : Type 0 where
+-- What stays as it is through a walk: the output and its area that were lent, the limit of the work, and the outcome that it comes to.
+pub record Aim : Type 0 where
+  pub loan : GName
+  pub lent : MutBor (List ℕ)
+  pub limit : ℕ
+  pub whole : Outcome
+
+-- A walk has come so far that the events es are left. They put out at most `left` bytes of the text.
+pub record Reached (means : List ℕ → Option (List ℕ)) (deep : ℕ) (aim : Aim) (left : ℕ) (es : List Event) (now : Walk) : Type 0 where
+  pub loan : now.out.ghost_name ≡ aim.loan
+  pub limit : now.work.limit ≡ aim.limit
   pub pieces : List Piece
-  pub goes : run (shapes means) (record { depth = deep; work = now.work.limit }) now.work.total now.marks.changed pieces es ≡ whole
+  pub goes : run (shapes means) (record { depth = deep; work = now.work.limit }) now.work.total now.marks.changed pieces es ≡ aim.whole
   pub marked : now.marks.shows ≡ shows (shapes means) pieces
-  pub holds : Holds now.out lent (spelled (values means) pieces)
+  pub holds : Holds now.out.now aim.lent (spelled (values means) pieces)
   pub few : length (literals pieces) + left < 2 ^ 64
 
 -- the output holds the message of a refusal that has one
@@ -60,14 +69,16 @@ Tells out lent (E.ExpansionDepthLimitExceeded depth limit) told = told ≡ []
 Tells out lent (E.ExpansionWorkLimitExceeded work limit) told = told ≡ []
 
 -- the walk stopped there
-pub record Stopped (lent : MutBor (List ℕ)) (whole : Outcome) (now : State) (e : PropertyError) : Type 0 where
+pub record Stopped (aim : Aim) (now : Walk) (e : PropertyError) : Type 0 where
+  pub loan : now.out.ghost_name ≡ aim.loan
+  pub limit : now.work.limit ≡ aim.limit
   pub told : List ℕ
-  pub is : whole ≡ stopped now.work.total e told
+  pub is : aim.whole ≡ stopped now.work.total e told
   pub short : length told < 2 ^ 64
-  pub tells : Tells now.out lent e told
+  pub tells : Tells now.out.now aim.lent e told
   -- whatever was put out before
   pub old : List ℕ
-  pub holds : Holds now.out lent old
+  pub holds : Holds now.out.now aim.lent old
 
 abbrev pub Proper : FrameCompletion → Type 0
 Proper Root = ⊥
@@ -149,45 +160,47 @@ open_events nested d at w completion es = nest d ∷ begun_by d completion (nest
 
 module _ (means : List ℕ → Option (List ℕ)) (deep : ℕ) where
   -- the walk went on, with es left; or it stopped
-  abbrev pub Goes : MutBor (List ℕ) → Outcome → ℕ → List Event → State → Result (Unit {0}) PropertyError → Type 0
-  Goes lent whole left es now (Ok r) = Reached means deep lent whole left es now
-  Goes lent whole left es now (Err e) = Stopped lent whole now e
+  abbrev pub Goes : Aim → ℕ → List Event → Walk → Result (Unit {0}) PropertyError → Type 0
+  Goes aim left es now (Ok r) = Reached means deep aim left es now
+  Goes aim left es now (Err e) = Stopped aim now e
 
   -- the walk went on, with es left; or a text that was selected is to be walked first; or it stopped
-  abbrev pub Applied : (ℕ → List ℕ → List Event → List Event) → MutBor (List ℕ) → Outcome → ℕ → List Event → ℕ → List ℕ → FrameCompletion → State → Result (Option ExpansionFrame) PropertyError → Type 0
-  Applied nested lent whole left es at w completion now (Ok None) = Reached means deep lent whole left es now
-  Applied nested lent whole left es at w completion now (Ok (Some y)) = Reached means deep lent whole (length w + left) (nested at w (completed completion w es)) now
-  Applied nested lent whole left es at w completion now (Err e) = Stopped lent whole now e
+  abbrev pub Applied : (ℕ → List ℕ → List Event → List Event) → Aim → ℕ → List Event → ℕ → List ℕ → FrameCompletion → Walk → Result (Option ExpansionFrame) PropertyError → Type 0
+  Applied nested aim left es at w completion now (Ok None) = Reached means deep aim left es now
+  Applied nested aim left es at w completion now (Ok (Some y)) = Reached means deep aim (length w + left) (nested at w (completed completion w es)) now
+  Applied nested aim left es at w completion now (Err e) = Stopped aim now e
 
-  -- in any walk that is at the end of a message with the text w: the output holds the message, whose length is n
-  pub record Message (lent : MutBor (List ℕ)) (w : List ℕ) (out : Output) (n : ℕ) (pieces : List Piece) : Type 0 where
-    pub holds : Holds out lent (shown (shapes means) w pieces)
+  -- in any walk that is at the end of a message with the text w: the output holds the message, whose length is n, and no work is done
+  pub record Message (aim : Aim) (w : List ℕ) (before after : Walk) (n : ℕ) (pieces : List Piece) : Type 0 where
+    pub loan : after.out.ghost_name ≡ before.out.ghost_name
+    pub work : after.work ≡ before.work
+    pub holds : Holds after.out.now aim.lent (shown (shapes means) w pieces)
     pub len : n ≡ length (shown (shapes means) w pieces)
     pub short : n < 2 ^ 64
 
-  abbrev pub TellsMessage : List ℕ → State → Output → ℕ → Type 0
-  TellsMessage w before out n =
-      (lent : MutBor (List ℕ)) (whole : Outcome) (left : ℕ) (es : List Event) (r : Reached means deep lent whole left es before) → Message lent w out n r.pieces
+  abbrev pub TellsMessage : List ℕ → Walk → Walk → ℕ → Type 0
+  TellsMessage w before after n =
+      (aim : Aim) (left : ℕ) (es : List Event) (r : Reached means deep aim left es before) → Message aim w before after n r.pieces
 
   -- in any walk: events are passed; with them a frame's end; selected text; an action in a frame of the depth d
-  abbrev pub Passes : (List Event → List Event) → State → State → Type 0
-  Passes events before after = (lent : MutBor (List ℕ)) (whole : Outcome) (left : ℕ) (es : List Event) → Reached means deep lent whole left (events es) before → Reached means deep lent whole left es after
+  abbrev pub Passes : (List Event → List Event) → Walk → Walk → Type 0
+  Passes events before after = (aim : Aim) (left : ℕ) (es : List Event) → Reached means deep aim left (events es) before → Reached means deep aim left es after
 
-  abbrev pub Ends : (ℕ → ℕ) → (List Event → List Event) → State → State → Result (Unit {0}) PropertyError → Type 0
+  abbrev pub Ends : (ℕ → ℕ) → (List Event → List Event) → Walk → Walk → Result (Unit {0}) PropertyError → Type 0
   Ends room events before after r =
-      (lent : MutBor (List ℕ)) (whole : Outcome) (left : ℕ) (es : List Event) → Reached means deep lent whole (room left) (events es) before → Goes lent whole left es after r
+      (aim : Aim) (left : ℕ) (es : List Event) → Reached means deep aim (room left) (events es) before → Goes aim left es after r
 
-  abbrev pub Selects : (ℕ → List ℕ → List Event → List Event) → (List Event → List Event) → ℕ → List ℕ → FrameCompletion → State → State → Result (Option ExpansionFrame) PropertyError → Type 0
+  abbrev pub Selects : (ℕ → List ℕ → List Event → List Event) → (List Event → List Event) → ℕ → List ℕ → FrameCompletion → Walk → Walk → Result (Option ExpansionFrame) PropertyError → Type 0
   Selects nested events at w completion before after r =
-      (lent : MutBor (List ℕ)) (whole : Outcome) (left : ℕ) (es : List Event)
-      → Reached means deep lent whole (length w + left) (events es) before
-      → Applied nested lent whole left es at w completion after r
+      (aim : Aim) (left : ℕ) (es : List Event)
+      → Reached means deep aim (length w + left) (events es) before
+      → Applied nested aim left es at w completion after r
 
-  abbrev pub Applies : (ℕ → List ℕ → List Event → List Event) → ℕ → PropertySyntax → ℕ → Action → State → State → Result (Option ExpansionFrame) PropertyError → Type 0
+  abbrev pub Applies : (ℕ → List ℕ → List Event → List Event) → ℕ → PropertySyntax → ℕ → Action → Walk → Walk → Result (Option ExpansionFrame) PropertyError → Type 0
   Applies nested d s close a before after r =
-      (lent : MutBor (List ℕ)) (whole : Outcome) (left : ℕ) (es : List Event)
-      → Reached means deep lent whole (room_of a + left) (acts nested d s (act_of close a) es) before
-      → Applied nested lent whole left es (close - length (text_of a)) (text_of a) (completion_of a) after r
+      (aim : Aim) (left : ℕ) (es : List Event)
+      → Reached means deep aim (room_of a + left) (acts nested d s (act_of close a) es) before
+      → Applied nested aim left es (close - length (text_of a)) (text_of a) (completion_of a) after r
 
 -- the bytes from a to e of a text, and how many are left in a frame
 abbrev pub part : List ℕ → ℕ → ℕ → List ℕ
@@ -218,22 +231,22 @@ Nested k next n (Err e) = Unit {0}
 
 module _ (means : List ℕ → Option (List ℕ)) (deep : ℕ) (text : List ℕ) where
   -- the frame came to its end; or to y, where another is to be walked first; or the walk stopped
-  abbrev pub Framed : MutBor (List ℕ) → Outcome → (f d left : ℕ) → List Event → ExpansionFrame → State → Result (Option ExpansionFrame) PropertyError → Type 0
-  Framed lent whole f d left es y now (Ok None) = Reached means deep lent whole left es now
-  Framed lent whole f d left es y now (Ok (Some x)) =
-      Reached means deep lent whole (rest x + (rest y + left)) (frame_events (shapes means) text f (d + 1) x (completed x.completion (part text x.start x.end) (frame_events (shapes means) text (suc f) d y es))) now
-  Framed lent whole f d left es y now (Err e) = Stopped lent whole now e
+  abbrev pub Framed : Aim → (f d left : ℕ) → List Event → ExpansionFrame → Walk → Result (Option ExpansionFrame) PropertyError → Type 0
+  Framed aim f d left es y now (Ok None) = Reached means deep aim left es now
+  Framed aim f d left es y now (Ok (Some x)) =
+      Reached means deep aim (rest x + (rest y + left)) (frame_events (shapes means) text f (d + 1) x (completed x.completion (part text x.start x.end) (frame_events (shapes means) text (suc f) d y es))) now
+  Framed aim f d left es y now (Err e) = Stopped aim now e
 
   -- a frame x of the depth d is walked, in any walk
-  abbrev pub Frames : ℕ → ExpansionFrame → State → ExpansionFrame → State → Result (Option ExpansionFrame) PropertyError → Type 0
+  abbrev pub Frames : ℕ → ExpansionFrame → Walk → ExpansionFrame → Walk → Result (Option ExpansionFrame) PropertyError → Type 0
   Frames d x before y after r =
-      (f : ℕ) (lent : MutBor (List ℕ)) (whole : Outcome) (left : ℕ) (es : List Event)
-      → Reached means deep lent whole (rest x + left) (frame_events (shapes means) text (suc f) d x es) before
-      → Framed lent whole f d left es y after r
+      (f : ℕ) (aim : Aim) (left : ℕ) (es : List Event)
+      → Reached means deep aim (rest x + left) (frame_events (shapes means) text (suc f) d x es) before
+      → Framed aim f d left es y after r
 
   -- it is walked on, from x to y
-  abbrev pub Onward : ℕ → ExpansionFrame → State → ExpansionFrame → State → Type 0
+  abbrev pub Onward : ℕ → ExpansionFrame → Walk → ExpansionFrame → Walk → Type 0
   Onward d x before y after =
-      (f : ℕ) (lent : MutBor (List ℕ)) (whole : Outcome) (left : ℕ) (es : List Event)
-      → Reached means deep lent whole (rest x + left) (frame_events (shapes means) text (suc f) d x es) before
-      → Reached means deep lent whole (rest y + left) (frame_events (shapes means) text (suc f) d y es) after
+      (f : ℕ) (aim : Aim) (left : ℕ) (es : List Event)
+      → Reached means deep aim (rest x + left) (frame_events (shapes means) text (suc f) d x es) before
+      → Reached means deep aim (rest y + left) (frame_events (shapes means) text (suc f) d y es) after

@@ -1,13 +1,12 @@
 -- The frames that are open, the first opened at the front.
 use Rattle.std.specs.Prelude.{ℕ, ◌+◌, ◌-◌, ◌*◌, ◌/◌, ◌<◌, ◌≤◌, List, [], ◌∷◌, length, Ok, Err, Option, Result}
-use Rattle.std.specs.Borrow.{MutBor}
 use Rattle.names.specs.declared.PropertySyntax.{PropertySyntax}
 use Rattle.source.specs.Shapes.{Shape, shapes}
 use Rattle.references.specs.declared.error.PropertyError.{PropertyError}
 use Rattle.walk.specs.declared.frame.ExpansionFrame.{ExpansionFrame}
+use Rattle.walk.specs.declared.state.Walk.{Walk}
 use Rattle.expansion.specs.Events.{Event, events}
-use Rattle.expansion.specs.Walks.{Outcome}
-use Rattle.walk.specs.Frames.{Goes, Reached, State, completed, frame_events, part, rest}
+use Rattle.walk.specs.Frames.{Aim, Goes, Reached, completed, frame_events, part, rest}
 
 -- the frame with i others below it lies in the text of n bytes, and what is left of it is shorter by five for each of those
 pub record Sound1 (n i : ℕ) (x : ExpansionFrame) : Type 0 where
@@ -53,13 +52,13 @@ Turns text slots xs ys (Ok r) = Turned text slots xs ys
 Turns text slots xs ys (Err e) = Unit {0}
 
 -- in any walk: the frames xs are open, and then ys are; or it stopped
-abbrev pub Runs : (List ℕ → Option (List ℕ)) → ℕ → List ℕ → List ExpansionFrame → State → List ExpansionFrame → State → Result (Unit {0}) PropertyError → Type 0
+abbrev pub Runs : (List ℕ → Option (List ℕ)) → ℕ → List ℕ → List ExpansionFrame → Walk → List ExpansionFrame → Walk → Result (Unit {0}) PropertyError → Type 0
 Runs means deep text xs before ys after r =
-    (lent : MutBor (List ℕ)) (whole : Outcome)
-    → Reached means deep lent whole (left xs) (pending (shapes means) text 0 xs []) before
-    → Goes means deep lent whole (left ys) (pending (shapes means) text 0 ys []) after r
+    (aim : Aim)
+    → Reached means deep aim (left xs) (pending (shapes means) text 0 xs []) before
+    → Goes means deep aim (left ys) (pending (shapes means) text 0 ys []) after r
 
 -- a whole text, in any walk over it
-abbrev pub Walks : (List ℕ → Option (List ℕ)) → ℕ → PropertySyntax → List ℕ → State → State → Result (Unit {0}) PropertyError → Type 0
+abbrev pub Walks : (List ℕ → Option (List ℕ)) → ℕ → PropertySyntax → List ℕ → Walk → Walk → Result (Unit {0}) PropertyError → Type 0
 Walks means deep s text before after r =
-    (lent : MutBor (List ℕ)) (whole : Outcome) → Reached means deep lent whole (length text) (events (shapes means) s text) before → Goes means deep lent whole 0 [] after r
+    (aim : Aim) → Reached means deep aim (length text) (events (shapes means) s text) before → Goes means deep aim 0 [] after r

@@ -1,66 +1,57 @@
 ghost use Rattle.std.specs.Prelude.{◌≡◌, ℕ, ◌+◌, ◌-◌, ◌≤◌, false, List, length, Option};
-ghost use Rattle.budget.specs.declared.WorkBudget.{WorkBudget};
 ghost use Rattle.names.specs.declared.PropertySyntax.{PropertySyntax};
 ghost use Rattle.items.specs.Items.{inner};
 ghost use Rattle.items.specs.Looks.{chosen};
 ghost use Rattle.expansion.specs.Events.{Event, acts};
-ghost use Rattle.walk.specs.Frames.{Applies, Askable, Ends, Opens, OpensBy, Passes, Proper, Selects, TellsMessage, begun_by, completed, open_events, part, put_events, state};
+ghost use Rattle.walk.specs.Frames.{Applies, Askable, Ends, Opens, OpensBy, Passes, Proper, Selects, TellsMessage, begun_by, completed, open_events, part, put_events};
 
 use crate::frame::ExpansionFrame;
-use crate::marks::Marks;
-use budget::WorkBudget;
+use crate::state::Walk;
 use items::action::{Action, FrameCompletion};
 use names::PropertySyntax;
-use output::Output;
 use references::error::PropertyError;
 use selected::needs_expansion;
 use source::source::PropertySource;
 
 // The message of a required property begins anew; any other text that is selected is a replacement.
-fn begin_selected(
-    completion: FrameCompletion,
-    depth: usize,
-    out: &mut Output<'_>,
-    marks: &mut Marks,
-)
-    ensures { (means : List ℕ → Option (List ℕ)) (deep : ℕ) (work : WorkBudget) → Passes means deep (begun_by depth completion) (state work marks.old out.old) (state work marks.new out.new) }
+fn begin_selected(completion: FrameCompletion, depth: usize, walk: &mut Walk<'_, '_>)
+    ensures { (means : List ℕ → Option (List ℕ)) (deep : ℕ) → Passes means deep (begun_by depth completion) walk.old walk.new }
 {
     match completion {
-        FrameCompletion::Root | FrameCompletion::Append => marks.replace(depth),
+        FrameCompletion::Root | FrameCompletion::Append => walk.marks.replace(depth),
         FrameCompletion::RequiredButUnset(_) | FrameCompletion::RequiredButEmpty(_) => {
-            out.clear();
-            marks.shows = false;
+            walk.out.clear();
+            walk.marks.shows = false;
         }
     }
 }
 
 // The message of a required property: where a value shows in it, it is the text as it stands. Answers its length.
-fn message_len(text: &[u8], out: &mut Output<'_>, marks: Marks) -> usize
-    ensures { (means : List ℕ → Option (List ℕ)) (deep : ℕ) (work : WorkBudget) → TellsMessage means deep text.now (state work marks out.old) out.new result }
+fn message_len(text: &[u8], walk: &mut Walk<'_, '_>) -> usize
+    ensures { (means : List ℕ → Option (List ℕ)) (deep : ℕ) → TellsMessage means deep text.now walk.old walk.new result }
 {
-    if marks.shows {
-        out.clear();
-        out.put_bytes(text);
+    if walk.marks.shows {
+        walk.out.clear();
+        walk.out.put_bytes(text);
     }
-    out.len()
+    walk.out.len()
 }
 
 // The end of a text that was selected: the walk goes on, or that was the message of a required property.
 pub(crate) fn complete_frame(
     text: &[u8],
     completion: FrameCompletion,
-    out: &mut Output<'_>,
-    marks: Marks,
+    walk: &mut Walk<'_, '_>,
 ) -> Result<(), PropertyError>
-    ensures { (means : List ℕ → Option (List ℕ)) (deep : ℕ) (work : WorkBudget) → Ends means deep (λ left. left) (completed completion text.now) (state work marks out.old) (state work marks out.new) result }
+    ensures { (means : List ℕ → Option (List ℕ)) (deep : ℕ) → Ends means deep (λ left. left) (completed completion text.now) walk.old walk.new result }
 {
     match completion {
         FrameCompletion::Root | FrameCompletion::Append => Ok(()),
         FrameCompletion::RequiredButUnset(name) => {
-            Err(PropertyError::RequiredButUnset(name, message_len(text, out, marks)))
+            Err(PropertyError::RequiredButUnset(name, message_len(text, walk)))
         }
         FrameCompletion::RequiredButEmpty(name) => {
-            Err(PropertyError::RequiredButEmpty(name, message_len(text, out, marks)))
+            Err(PropertyError::RequiredButEmpty(name, message_len(text, walk)))
         }
     }
 }
@@ -69,15 +60,14 @@ pub(crate) fn complete_frame(
 pub(crate) fn finish_frame(
     text: &[u8],
     frame: ExpansionFrame,
-    out: &mut Output<'_>,
-    marks: Marks,
+    walk: &mut Walk<'_, '_>,
 ) -> Result<(), PropertyError>
     requires { (frame.start ≤ frame.end) × (frame.end ≤ length text.now) }
-    ensures { (means : List ℕ → Option (List ℕ)) (deep : ℕ) (work : WorkBudget) → Ends means deep (λ left. left) (completed frame.completion (part text.now frame.start frame.end)) (state work marks out.old) (state work marks out.new) result }
+    ensures { (means : List ℕ → Option (List ℕ)) (deep : ℕ) → Ends means deep (λ left. left) (completed frame.completion (part text.now frame.start frame.end)) walk.old walk.new result }
 {
     let start = frame.start;
     let end = frame.end;
-    complete_frame(&text[start..end], frame.completion, out, marks)
+    complete_frame(&text[start..end], frame.completion, walk)
 }
 
 // Text that was selected and need not be walked: it is put out as it is.
@@ -85,14 +75,13 @@ fn put_selected(
     text: &[u8],
     completion: FrameCompletion,
     depth: usize,
-    out: &mut Output<'_>,
-    marks: &mut Marks,
+    walk: &mut Walk<'_, '_>,
 ) -> Result<(), PropertyError>
-    ensures { (means : List ℕ → Option (List ℕ)) (deep : ℕ) (work : WorkBudget) → Ends means deep (λ left. length text.now + left) (put_events depth text.now completion) (state work marks.old out.old) (state work marks.new out.new) result }
+    ensures { (means : List ℕ → Option (List ℕ)) (deep : ℕ) → Ends means deep (λ left. length text.now + left) (put_events depth text.now completion) walk.old walk.new result }
 {
-    begin_selected(completion, depth, out, marks);
-    out.put_bytes(text);
-    complete_frame(text, completion, out, *marks)
+    begin_selected(completion, depth, walk);
+    walk.out.put_bytes(text);
+    complete_frame(text, completion, walk)
 }
 
 // Selected text of Braced and BracedOrBare is walked under Braced.
@@ -113,17 +102,16 @@ fn open_selected(
     depth: usize,
     syntax: PropertySyntax,
     max_depth: usize,
-    out: &mut Output<'_>,
-    marks: &mut Marks,
+    walk: &mut Walk<'_, '_>,
 ) -> Result<Option<ExpansionFrame>, PropertyError>
     requires { length text.now ≤ close }
     ensures opens { Opens close syntax text.now completion result }
-    ensures goes { (means : List ℕ → Option (List ℕ)) (nested : ℕ → List ℕ → List Event → List Event) (work : WorkBudget) → Selects means max_depth nested (open_events nested depth (close - length text.now) text.now completion) (close - length text.now) text.now completion (state work marks.old out.old) (state work marks.new out.new) result }
+    ensures goes { (means : List ℕ → Option (List ℕ)) (nested : ℕ → List ℕ → List Event → List Event) → Selects means max_depth nested (open_events nested depth (close - length text.now) text.now completion) (close - length text.now) text.now completion walk.old walk.new result }
 {
     if depth > max_depth {
         return Err(PropertyError::ExpansionDepthLimitExceeded(depth, max_depth));
     }
-    begin_selected(completion, depth, out, marks);
+    begin_selected(completion, depth, walk);
     let start = close - text.len();
     Ok(Some(ExpansionFrame {
         start,
@@ -142,22 +130,17 @@ fn select_text(
     depth: usize,
     syntax: PropertySyntax,
     max_depth: usize,
-    out: &mut Output<'_>,
-    marks: &mut Marks,
-    work: &mut WorkBudget,
+    walk: &mut Walk<'_, '_>,
 ) -> Result<Option<ExpansionFrame>, PropertyError>
     requires { (length text.now ≤ close) × (Proper completion) }
     ensures opens { Opens close syntax text.now completion result }
-    ensures goes { (means : List ℕ → Option (List ℕ)) (nested : ℕ → List ℕ → List Event → List Event) → Selects means max_depth nested (acts nested depth syntax (chosen close text.now completion)) (close - length text.now) text.now completion (state work.old marks.old out.old) (state work.new marks.new out.new) result }
-    ensures limit { work.new.limit ≡ work.old.limit }
+    ensures goes { (means : List ℕ → Option (List ℕ)) (nested : ℕ → List ℕ → List Event → List Event) → Selects means max_depth nested (acts nested depth syntax (chosen close text.now completion)) (close - length text.now) text.now completion walk.old walk.new result }
 {
-    work.charge(text.len())?;
+    walk.work.charge(text.len())?;
     if needs_expansion(text, syntax) {
-        return open_selected(
-            text, completion, close, depth, syntax, max_depth, out, marks,
-        );
+        return open_selected(text, completion, close, depth, syntax, max_depth, walk);
     }
-    put_selected(text, completion, depth, out, marks)?;
+    put_selected(text, completion, depth, walk)?;
     Ok(None)
 }
 
@@ -170,31 +153,26 @@ pub(crate) fn apply_action<S: PropertySource>(
     depth: usize,
     syntax: PropertySyntax,
     max_depth: usize,
-    out: &mut Output<'_>,
-    marks: &mut Marks,
-    work: &mut WorkBudget,
+    walk: &mut Walk<'_, '_>,
 ) -> Result<Option<ExpansionFrame>, PropertyError>
     requires { Askable (S.PropertySource.means source.now) close action }
     ensures opens { OpensBy close syntax action.entry result }
-    ensures goes { (nested : ℕ → List ℕ → List Event → List Event) → Applies (S.PropertySource.means source.now) max_depth nested depth syntax close action.entry (state work.old marks.old out.old) (state work.new marks.new out.new) result }
-    ensures limit { work.new.limit ≡ work.old.limit }
+    ensures goes { (nested : ℕ → List ℕ → List Event → List Event) → Applies (S.PropertySource.means source.now) max_depth nested depth syntax close action.entry walk.old walk.new result }
 {
     match action {
-        Action::Keep(byte) => out.put_byte(byte),
+        Action::Keep(byte) => walk.out.put_byte(byte),
         Action::Dollar => {
-            marks.replace(depth);
-            out.put_byte(b'$');
+            walk.marks.replace(depth);
+            walk.out.put_byte(b'$');
         }
         Action::Property(name, len) => {
-            marks.replace(depth);
-            marks.show(len);
-            out.put_value(source, name, len);
+            walk.marks.replace(depth);
+            walk.marks.show(len);
+            walk.out.put_value(source, name, len);
         }
-        Action::Nothing => marks.replace(depth),
+        Action::Nothing => walk.marks.replace(depth),
         Action::Interpolate(text, completion) => {
-            return select_text(
-                text, completion, close, depth, syntax, max_depth, out, marks, work,
-            );
+            return select_text(text, completion, close, depth, syntax, max_depth, walk);
         }
     }
     Ok(None)

@@ -1,17 +1,14 @@
 ghost use Rattle.std.specs.Prelude.{◌≡◌, ◌/◌, ◌<◌, [], ◌∷◌, ◌++◌, length, Some};
 ghost use Rattle.stack.specs.Held.{held, memory};
 ghost use Rattle.expansion.specs.Events.{first_dollar};
-ghost use Rattle.walk.specs.Frames.{state};
 ghost use Rattle.walk.specs.Stacks.{Fit, Runs, Turns, Walks};
 
 use crate::apply::finish_frame;
 use crate::frame::ExpansionFrame;
-use crate::marks::Marks;
+use crate::state::Walk;
 use crate::step::walk_frame;
-use budget::WorkBudget;
 use items::action::FrameCompletion;
 use names::PropertySyntax;
-use output::Output;
 use references::error::PropertyError;
 use source::source::PropertySource;
 use stack::Stack;
@@ -23,20 +20,16 @@ fn walk_newest<S: PropertySource>(
     mut frame: ExpansionFrame,
     frames: &mut Stack<'_, ExpansionFrame>,
     max_depth: usize,
-    out: &mut Output<'_>,
-    marks: &mut Marks,
-    work: &mut WorkBudget,
+    walk: &mut Walk<'_, '_>,
 ) -> Result<(), PropertyError>
     requires { Fit text.now (length (memory frames.old)) (held frames.old ++ frame ∷ []) }
     ensures turns { Turns text.now (length (memory frames.old)) (held frames.old ++ frame ∷ []) (held frames.new) result }
-    ensures goes { Runs (S.PropertySource.means source.now) max_depth text.now (held frames.old ++ frame ∷ []) (state work.old marks.old out.old) (held frames.new) (state work.new marks.new out.new) result }
-    ensures limit { work.new.limit ≡ work.old.limit }
+    ensures goes { Runs (S.PropertySource.means source.now) max_depth text.now (held frames.old ++ frame ∷ []) walk.old (held frames.new) walk.new result }
     ensures memory { length (memory frames.new) ≡ length (memory frames.old) }
 {
     let depth = frames.len() + 1;
-    let Some(nested) = walk_frame(source, text, &mut frame, depth, max_depth, out, marks, work)?
-    else {
-        return finish_frame(text, frame, out, *marks);
+    let Some(nested) = walk_frame(source, text, &mut frame, depth, max_depth, walk)? else {
+        return finish_frame(text, frame, walk);
     };
     let _ = frames.push(frame);
     let _ = frames.push(nested);
@@ -49,17 +42,13 @@ fn walk_frames<S: PropertySource>(
     text: &[u8],
     frames: &mut Stack<'_, ExpansionFrame>,
     max_depth: usize,
-    out: &mut Output<'_>,
-    marks: &mut Marks,
-    work: &mut WorkBudget,
+    walk: &mut Walk<'_, '_>,
 ) -> Result<(), PropertyError>
     requires { Fit text.now (length (memory frames.old)) (held frames.old) }
-    ensures goes { Runs (S.PropertySource.means source.now) max_depth text.now (held frames.old) (state work.old marks.old out.old) [] (state work.new marks.new out.new) result }
-    ensures limit { work.new.limit ≡ work.old.limit }
-    ensures memory { length (memory frames.new) ≡ length (memory frames.old) }
+    ensures { Runs (S.PropertySource.means source.now) max_depth text.now (held frames.old) walk.old [] walk.new result }
 {
     while let Some(frame) = frames.pop() {
-        walk_newest(source, text, frame, frames, max_depth, out, marks, work)?;
+        walk_newest(source, text, frame, frames, max_depth, walk)?;
     }
     Ok(())
 }
@@ -72,18 +61,15 @@ pub(crate) fn walk_text<S: PropertySource>(
     syntax: PropertySyntax,
     frames: &mut Stack<'_, ExpansionFrame>,
     max_depth: usize,
-    out: &mut Output<'_>,
-    marks: &mut Marks,
-    work: &mut WorkBudget,
+    walk: &mut Walk<'_, '_>,
 ) -> Result<(), PropertyError>
     requires none { held frames.old ≡ [] }
     requires enough { length text.now / 5 < length (memory frames.old) }
     requires place { Some first ≡ first_dollar 0 text.now }
     requires within { first < length text.now }
-    ensures goes { Walks (S.PropertySource.means source.now) max_depth syntax text.now (state work.old marks.old out.old) (state work.new marks.new out.new) result }
-    ensures limit { work.new.limit ≡ work.old.limit }
+    ensures { Walks (S.PropertySource.means source.now) max_depth syntax text.now walk.old walk.new result }
 {
-    work.charge(first + 1)?;
+    walk.work.charge(first + 1)?;
     let root = ExpansionFrame {
         start: 0,
         cursor: 0,
@@ -92,5 +78,5 @@ pub(crate) fn walk_text<S: PropertySource>(
         completion: FrameCompletion::Root,
     };
     let _ = frames.push(root);
-    walk_frames(source, text, frames, max_depth, out, marks, work)
+    walk_frames(source, text, frames, max_depth, walk)
 }

@@ -14,6 +14,7 @@ ghost use Rattle.walk.specs.Outcomes.{call_told, call_total, frames_needed, told
 use crate::frame::ExpansionFrame;
 use crate::frames::walk_text;
 use crate::marks::Marks;
+use crate::state::Walk;
 use answers::{Answer, OutputTooShort};
 use budget::{WorkBudget, WorkFault};
 use names::PropertySyntax;
@@ -120,16 +121,18 @@ fn expand_text<S: PropertySource>(
 {
     let mut stack = Stack::new(frames);
     let mut out = Output::new(area);
-    let mut marks = Marks {
-        changed: false,
-        shows: false,
+    let mut walk = Walk {
+        work: *work,
+        marks: Marks::default(),
+        out: &mut out,
     };
     let walked = walk_text(
-        source, text, first, syntax, &mut stack, max_depth, &mut out, &mut marks, work,
+        source, text, first, syntax, &mut stack, max_depth, &mut walk,
     );
-    settle(walked, marks.changed, &mut out);
-    let fit = out.finish();
-    answer(walked, marks.changed, fit)
+    let changed = walk.marks.changed;
+    *work = walk.work;
+    settle(walked, changed, &mut out);
+    answer(walked, changed, out.finish())
 }
 
 // A text without `$`, of `len` bytes, is charged at once and stays as it is.

@@ -6,4 +6,5 @@ pub mod frame;
 mod frames;
 pub mod interpolate;
 mod marks;
+mod state;
 mod step;

@@ -2,7 +2,7 @@ ghost use Rattle.std.specs.Prelude.{◌≡◌};
 ghost use Rattle.walk.specs.Frames.{marked_replaced, marked_shows};
 
 // Whether the text has a replacement, and whether a value that is not empty stands in the output.
-#[derive(Clone, Copy)]
+#[derive(Clone, Copy, PartialEq, Eq, Debug, Default)]
 pub struct Marks {
     pub changed: bool,
     pub shows: bool,

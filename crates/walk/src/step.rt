@@ -1,12 +1,10 @@
 ghost use Rattle.std.specs.Prelude.{◌≡◌, ◌≤◌, length};
-ghost use Rattle.walk.specs.Frames.{Frames, Nested, moved, state};
+ghost use Rattle.walk.specs.Frames.{Frames, Nested, moved};
 
 use crate::apply::apply_action;
 use crate::frame::ExpansionFrame;
-use crate::marks::Marks;
-use budget::WorkBudget;
+use crate::state::Walk;
 use items::look::look_at;
-use output::Output;
 use references::error::PropertyError;
 use source::source::PropertySource;
 
@@ -17,19 +15,16 @@ pub(crate) fn walk_frame<S: PropertySource>(
     frame: &mut ExpansionFrame,
     depth: usize,
     max_depth: usize,
-    out: &mut Output<'_>,
-    marks: &mut Marks,
-    work: &mut WorkBudget,
+    walk: &mut Walk<'_, '_>,
 ) -> Result<Option<ExpansionFrame>, PropertyError>
     requires { frame.old.end ≤ length text.now }
     ensures frame { frame.new ≡ moved frame.old frame.new.cursor }
     ensures nested { Nested frame.old.cursor frame.new.cursor frame.old.end result }
-    ensures goes { Frames (S.PropertySource.means source.now) max_depth text.now depth frame.old (state work.old marks.old out.old) frame.new (state work.new marks.new out.new) result }
-    ensures limit { work.new.limit ≡ work.old.limit }
+    ensures goes { Frames (S.PropertySource.means source.now) max_depth text.now depth frame.old walk.old frame.new walk.new result }
 {
     let end = frame.end;
     let input = &text[..end];
-    while let Some(step) = look_at(source, input, frame.cursor, frame.syntax, work)? {
+    while let Some(step) = look_at(source, input, frame.cursor, frame.syntax, &mut walk.work)? {
         let close = step.next - 1;
         let syntax = frame.syntax;
         frame.cursor = step.next;
@@ -40,9 +35,7 @@ pub(crate) fn walk_frame<S: PropertySource>(
             depth,
             syntax,
             max_depth,
-            out,
-            marks,
-            work,
+            walk,
         )? {
             return Ok(Some(nested));
         }

@@ -1,12 +1,11 @@
 use Rattle.stack.specs.Held.{held}
-use Rattle.walk.specs.Frames.{state}
 use Rattle.walk.specs.Stacks.{measure}
 use Rattle.walk.proofs.Stacking.{Walked}
 use Rattle.walk.proofs.frames.walk_frames.Given as goal
 
 abbrev pub invariant-loop-frame : goal.invariant-loop-frame
 invariant-loop-frame g l =
-    Walked (g.S.PropertySource.means l.source) l.max_depth l.text l.initial.frames (state l.initial.work l.initial.marks l.initial.out) l.frames (state l.work l.marks l.out)
+    Walked (g.S.PropertySource.means l.source) l.max_depth l.text l.initial.frames l.initial.walk l.frames l.walk
 
 abbrev pub decreases-loop-frame : goal.decreases-loop-frame
 decreases-loop-frame g l = measure (held l.frames)

@@ -3,7 +3,7 @@ use Rattle.std.proofs.lemmas.Result.{err_from_is_err_and}
 use Rattle.stack.specs.Held.{held, memory}
 use Rattle.source.specs.Shapes.{shapes}
 use Rattle.walk.specs.declared.frame.ExpansionFrame.{ExpansionFrame}
-use Rattle.walk.specs.Frames.{Framed, Reached, Nested, completed, moved, part, state}
+use Rattle.walk.specs.Frames.{Framed, Reached, Nested, completed, moved, part}
 use Rattle.walk.specs.Stacks.{Turned, left, pending}
 use Rattle.walk.proofs.Reaching.{reach_same}
 use Rattle.walk.proofs.Stacking.{fuel, newest, pushed, reach_nested, reach_newest, room_first, room_second, turned_end, turned_nested, turns_by}
@@ -21,8 +21,7 @@ returns-in_err-nested g c =
     let d : c.len-depth.result + 1 ≡ length xs + 1 = ap (λ n. n + 1) c.len-depth.ensures in
     rw (p.1, p.2) (record {
       turns = tt;
-      goes = λ lent whole r. e.goes (fuel xs x c.requires) lent whole (left xs) _ (reach_newest xs x c.requires (c.len-depth.result + 1) d r);
-      limit = e.limit;
+      goes = λ aim r. e.goes (fuel xs x c.requires) aim (left xs) _ (reach_newest xs x c.requires (c.len-depth.result + 1) d r);
       memory = refl;
     })
 
@@ -42,17 +41,15 @@ returns-in_default g c =
     let xs = held c.args.frames.now in
     let x = c.args.frame in
     let y = c.walk_frame.new.frame in
-    let w = c.walk_frame.new.work in
-    let st = state w c.walk_frame.new.marks c.walk_frame.new.out in
+    let st = c.walk_frame.new.walk in
     let d : c.len-depth.result + 1 ≡ length xs + 1 = ap (λ n. n + 1) c.len-depth.ensures in
     record {
       turns = turns_by _ (turned_end xs x c.requires);
-      goes = λ lent whole r.
+      goes = λ aim r.
           let es = pending (shapes m) text 0 xs [] in
-          let to = e.goes (fuel xs x c.requires) lent whole (left xs) (completed x.completion (part text x.start x.end) es) (reach_newest xs x c.requires (c.len-depth.result + 1) d r) in
-          let at = subst (λ o. Framed m c.args.max_depth text lent whole (fuel xs x c.requires) (c.len-depth.result + 1) (left xs) (completed x.completion (part text x.start x.end) es) y st (Ok o)) c.in_default.is to in
-          c.finish_frame.ensures m c.args.max_depth w lent whole (left xs) es (reach_same (ap (λ (z : ExpansionFrame). completed z.completion (part text z.start z.end) es) (sym e.frame)) at);
-      limit = e.limit;
+          let to = e.goes (fuel xs x c.requires) aim (left xs) (completed x.completion (part text x.start x.end) es) (reach_newest xs x c.requires (c.len-depth.result + 1) d r) in
+          let at = subst (λ o. Framed m c.args.max_depth text aim (fuel xs x c.requires) (c.len-depth.result + 1) (left xs) (completed x.completion (part text x.start x.end) es) y st (Ok o)) c.in_default.is to in
+          c.finish_frame.ensures m c.args.max_depth aim (left xs) es (reach_same (ap (λ (z : ExpansionFrame). completed z.completion (part text z.start z.end) es) (sym e.frame)) at);
       memory = refl;
     }
 
@@ -66,7 +63,7 @@ returns g c =
     let y = c.walk_frame.new.frame in
     let n = c.in-Some.nested in
     let k = y.cursor in
-    let st = state c.walk_frame.new.work c.walk_frame.new.marks c.walk_frame.new.out in
+    let st = c.walk_frame.new.walk in
     let d : c.len-depth.result + 1 ≡ length xs + 1 = ap (λ n. n + 1) c.len-depth.ensures in
     let nests = subst (λ o. Nested x.cursor k x.end (Ok o)) c.in-Some.is e.nested in
     let slots : length (memory c.push.new.self) ≡ length (memory c.args.frames.now) = ap length c.push.ensures.memory ∙ simp length-set in
@@ -77,12 +74,11 @@ returns g c =
     = pushed (held c.push.new.self) _ _ n _ c.push-2.ensures.says c.push-2.ensures.elements room ∙ ap (λ l. l ++ n ∷ []) first in
     record {
       turns = subst (Turned text (length (memory c.args.frames.now)) (xs ++ x ∷ [])) (sym both) (turned_nested xs x c.requires k n nests);
-      goes = λ lent whole r.
+      goes = λ aim r.
           let es = completed x.completion (part text x.start x.end) (pending (shapes m) text 0 xs []) in
-          let to = e.goes (fuel xs x c.requires) lent whole (left xs) es (reach_newest xs x c.requires (c.len-depth.result + 1) d r) in
-          let at = subst (λ o. Framed m c.args.max_depth text lent whole (fuel xs x c.requires) (c.len-depth.result + 1) (left xs) es y st (Ok o)) c.in-Some.is to in
-          let at₁ = subst (λ z. Framed m c.args.max_depth text lent whole (fuel xs x c.requires) (c.len-depth.result + 1) (left xs) es z st (Ok (Some n))) e.frame at in
-          subst (λ l. Reached m c.args.max_depth lent whole (left l) (pending (shapes m) text 0 l []) st) (sym both) (reach_nested xs x c.requires (c.len-depth.result + 1) d k n at₁);
-      limit = e.limit;
+          let to = e.goes (fuel xs x c.requires) aim (left xs) es (reach_newest xs x c.requires (c.len-depth.result + 1) d r) in
+          let at = subst (λ o. Framed m c.args.max_depth text aim (fuel xs x c.requires) (c.len-depth.result + 1) (left xs) es y st (Ok o)) c.in-Some.is to in
+          let at₁ = subst (λ z. Framed m c.args.max_depth text aim (fuel xs x c.requires) (c.len-depth.result + 1) (left xs) es z st (Ok (Some n))) e.frame at in
+          subst (λ l. Reached m c.args.max_depth aim (left l) (pending (shapes m) text 0 l []) st) (sym both) (reach_nested xs x c.requires (c.len-depth.result + 1) d k n at₁);
       memory = ap length c.push-2.ensures.memory ∙ simp length-set slots;
     }

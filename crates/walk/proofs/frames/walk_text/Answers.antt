@@ -1,9 +1,8 @@
 use Rattle.std.proofs.Common.{◌≡◌, ◌+◌, [], ◌∷◌, ◌++◌, length, sym, ap, ◌∙◌, subst, arith, length-set}
 use Rattle.std.proofs.lemmas.Result.{err_from_is_err_and}
-use Rattle.budget.specs.declared.WorkBudget.{WorkBudget}
 use Rattle.stack.specs.Held.{held, memory}
 use Rattle.source.specs.Shapes.{shapes}
-use Rattle.walk.specs.Frames.{Reached, state}
+use Rattle.walk.specs.Frames.{Reached, worked}
 use Rattle.walk.specs.Stacks.{Fit, left, pending}
 use Rattle.walk.proofs.Reaching.{reach_charge, reach_less, reach_same, stop_charge}
 use Rattle.walk.proofs.Stacking.{pushed}
@@ -15,10 +14,7 @@ returns-in_err-charge g c =
     let e = c.in_err-charge.ensures in
     let sh = shapes (g.S.PropertySource.means c.args.source.now) in
     let p = err_from_is_err_and c.from_residual.result c.from_residual.ensures.1 in
-    rw (p.1, p.2) (record {
-      goes = λ lent whole r. stop_charge (c.args.first + 1) e.work _ e.says (reach_same (begins_walked sh c.args.syntax c.args.text.now c.args.first c.requires.place) r);
-      limit = ap (λ (v : WorkBudget). v.limit) e.work;
-    })
+    rw (p.1, p.2) (λ aim r. stop_charge (c.args.first + 1) e.work _ e.says (reach_same (begins_walked sh c.args.syntax c.args.text.now c.args.first c.requires.place) r))
 
 pub walk_frames-requires : goal.walk_frames-requires
 walk_frames-requires g c =
@@ -38,10 +34,7 @@ returns g c =
     let none = ap length c.requires.none in
     let one : held c.push.new.self ≡ root_frame s text ∷ []
     = pushed (held c.args.frames.now) (held c.push.new.self) (length (memory c.args.frames.now)) (root_frame c.args.syntax text) _ c.push.ensures.says c.push.ensures.elements (omega (arith, c.requires.enough)) ∙ ap (λ l. l ++ root_frame c.args.syntax text ∷ []) c.requires.none in
-    record {
-      goes = λ lent whole r.
-          let at = reach_charge (c.args.first + 1) e.work e.says (reach_same (begins_walked (shapes m) s text c.args.first c.requires.place) r) in
-          let in-root = reach_less (left (root_frame s text ∷ [])) (omega arith) (reach_same (root_events (shapes m) s text) at) in
-          c.walk_frames.ensures.goes lent whole (subst (λ l. Reached m c.args.max_depth lent whole (left l) (pending (shapes m) text 0 l []) (state c.charge.new.self c.args.marks.now c.args.out.now)) (sym one) in-root);
-      limit = c.walk_frames.ensures.limit ∙ ap (λ (v : WorkBudget). v.limit) e.work;
-    }
+    λ aim r.
+    let at = reach_charge (c.args.first + 1) e.work e.says (reach_same (begins_walked (shapes m) s text c.args.first c.requires.place) r) in
+    let in-root = reach_less (left (root_frame s text ∷ [])) (omega arith) (reach_same (root_events (shapes m) s text) at) in
+    c.walk_frames.ensures aim (subst (λ l. Reached m c.args.max_depth aim (left l) (pending (shapes m) text 0 l []) (worked c.charge.new.self c.args.walk.now)) (sym one) in-root)

@@ -1,8 +1,7 @@
-use Rattle.std.proofs.Common.{ℕ, ◌-◌, List, Ok, ap, ◌∙◌, subst}
+use Rattle.std.proofs.Common.{ℕ, ◌-◌, List, Ok, ap, subst}
 use Rattle.std.proofs.lemmas.Result.{err_from_is_err_and}
-use Rattle.budget.specs.declared.WorkBudget.{WorkBudget}
 use Rattle.expansion.specs.Events.{Event}
-use Rattle.walk.specs.Frames.{Applies, OpensBy, moved, state}
+use Rattle.walk.specs.Frames.{Applies, OpensBy, moved, worked}
 use Rattle.walk.proofs.Walking.{walk_asks, walk_end, walk_nested, walk_nests, walk_on, walk_refused, walk_stop}
 use Rattle.walk.proofs.step.walk_frame.Goals as goal
 
@@ -14,8 +13,7 @@ returns-in_err-step g c =
     rw (p.1, p.2) (record {
       frame = inv.frame;
       nested = tt;
-      goes = λ f lent whole left es r. walk_stop inv c.requires e.work f lent whole left es r _ e.says;
-      limit = ap (λ (v : WorkBudget). v.limit) e.work ∙ inv.limit;
+      goes = λ f aim left es r. walk_stop inv c.requires e.work f aim left es r _ e.says;
     })
 
 pub apply_action-requires : goal.apply_action-requires
@@ -30,8 +28,7 @@ returns g c =
     record {
       frame = inv.frame;
       nested = tt;
-      goes = λ f lent whole left es r. walk_end inv c.requires e.work f lent whole left es r _ c.in_default.is e.says;
-      limit = ap (λ (v : WorkBudget). v.limit) e.work ∙ inv.limit;
+      goes = λ f aim left es r. walk_end inv c.requires e.work f aim left es r _ c.in_default.is e.says;
     }
 
 pub returns-in_err-nested : goal.returns-in_err-nested
@@ -43,8 +40,7 @@ returns-in_err-nested g c =
     rw (p.1, p.2) (record {
       frame = ap (λ z. moved z c.in-Some.step.next) inv.frame;
       nested = tt;
-      goes = walk_refused inv c.requires e.work _ c.in-Some.step c.in-Some.is e.says e.within (state c.apply_action.new.work c.apply_action.new.marks c.apply_action.new.out) _ a.goes;
-      limit = a.limit ∙ ap (λ (v : WorkBudget). v.limit) e.work ∙ inv.limit;
+      goes = walk_refused inv c.requires e.work _ c.in-Some.step c.in-Some.is e.says e.within c.apply_action.new.walk _ a.goes;
     })
 
 pub returns-in-Some-2 : goal.returns-in-Some-2
@@ -53,18 +49,17 @@ returns-in-Some-2 g c =
     let a = c.in_ok-nested.ensures in
     let inv = c.loop-step.invariant in
     let n = c.in-Some-2.nested in
-    let st = state c.apply_action.new.work c.apply_action.new.marks c.apply_action.new.out in
+    let st = c.apply_action.new.walk in
     let opens = subst (λ o. OpensBy (c.in-Some.step.next - 1) c.loop-step.frame.syntax c.in-Some.step.action (Ok o)) c.in-Some-2.is a.opens in
     record {
       frame = ap (λ z. moved z c.in-Some.step.next) inv.frame;
       nested = walk_nests inv c.requires e.work _ c.in-Some.step c.in-Some.is e.says e.within st n opens;
       goes = walk_nested inv c.requires e.work _ c.in-Some.step c.in-Some.is e.says e.within st n opens
-          (subst (λ o. (nested : ℕ → List ℕ → List Event → List Event) → Applies (g.S.PropertySource.means c.args.source.now) c.args.max_depth nested c.args.depth c.loop-step.frame.syntax (c.in-Some.step.next - 1) c.in-Some.step.action (state c.look_at.new.work c.loop-step.marks c.loop-step.out) st (Ok o)) c.in-Some-2.is a.goes);
-      limit = a.limit ∙ ap (λ (v : WorkBudget). v.limit) e.work ∙ inv.limit;
+          (subst (λ o. (nested : ℕ → List ℕ → List Event → List Event) → Applies (g.S.PropertySource.means c.args.source.now) c.args.max_depth nested c.args.depth c.loop-step.frame.syntax (c.in-Some.step.next - 1) c.in-Some.step.action (worked c.look_at.new.work c.loop-step.walk) st (Ok o)) c.in-Some-2.is a.goes);
     }
 
 pub loop-step-preserved : goal.loop-step-preserved
 loop-step-preserved g c =
     let e = c.in_ok-step.ensures in
     let a = c.in_ok-nested.ensures in
-    walk_on c.loop-step.invariant c.requires e.work _ c.in-Some.step c.in-Some.is e.says e.within (state c.apply_action.new.work c.apply_action.new.marks c.apply_action.new.out) _ c.in_default-2.is a.goes a.limit
+    walk_on c.loop-step.invariant c.requires e.work _ c.in-Some.step c.in-Some.is e.says e.within c.apply_action.new.walk _ c.in_default-2.is a.goes

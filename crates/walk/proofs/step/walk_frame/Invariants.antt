@@ -1,11 +1,10 @@
 use Rattle.std.proofs.Common.{◌-◌}
-use Rattle.walk.specs.Frames.{state}
 use Rattle.walk.proofs.Walking.{Walking}
 use Rattle.walk.proofs.step.walk_frame.Given as goal
 
 abbrev pub invariant-loop-step : goal.invariant-loop-step
 invariant-loop-step g l =
-    Walking (g.S.PropertySource.means l.source) l.max_depth l.text l.depth l.initial.frame (state l.initial.work l.initial.marks l.initial.out) l.frame (state l.work l.marks l.out)
+    Walking (g.S.PropertySource.means l.source) l.max_depth l.text l.depth l.initial.frame l.initial.walk l.frame l.walk
 
 abbrev pub decreases-loop-step : goal.decreases-loop-step
 decreases-loop-step g l = l.frame.end - l.frame.cursor

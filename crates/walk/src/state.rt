@@ -1,0 +1,12 @@
+use crate::marks::Marks;
+use budget::WorkBudget;
+use output::Output;
+
+// What a walk changes: the work that was done, the marks, and the text that was put out.
+// The output is lent: where a struct owns one, the check loses what is then in the area.
+#[derive(Drop)]
+pub struct Walk<'w, 'a> {
+    pub work: WorkBudget,
+    pub marks: Marks,
+    pub out: &'w mut Output<'a>,
+}
