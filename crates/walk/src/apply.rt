@@ -6,7 +6,7 @@ ghost use Rattle.expansion.specs.Events.{Event, acts};
 ghost use Rattle.walk.specs.Frames.{Applies, Askable, Ends, Opens, OpensBy, Passes, Proper, Selects, TellsMessage, begun_by, completed, open_events, part, put_events};
 
 use crate::frame::ExpansionFrame;
-use crate::state::Walk;
+use crate::state::{Given, Walk};
 use items::action::{Action, FrameCompletion};
 use names::PropertySyntax;
 use references::error::PropertyError;
@@ -94,85 +94,85 @@ fn selected_syntax(syntax: PropertySyntax) -> PropertySyntax
     }
 }
 
+// Where an action stands: in a frame of this depth and syntax, and `close` is the last byte that was read.
+#[derive(Clone, Copy)]
+pub(crate) struct Site {
+    pub(crate) close: usize,
+    pub(crate) depth: usize,
+    pub(crate) syntax: PropertySyntax,
+}
+
 // Text that was selected and has to be walked: the frame of it, which ends at the close.
 fn open_selected(
     text: &[u8],
     completion: FrameCompletion,
-    close: usize,
-    depth: usize,
-    syntax: PropertySyntax,
+    site: Site,
     max_depth: usize,
     walk: &mut Walk<'_, '_>,
 ) -> Result<Option<ExpansionFrame>, PropertyError>
-    requires { length text.now ≤ close }
-    ensures opens { Opens close syntax text.now completion result }
-    ensures goes { (means : List ℕ → Option (List ℕ)) (nested : ℕ → List ℕ → List Event → List Event) → Selects means max_depth nested (open_events nested depth (close - length text.now) text.now completion) (close - length text.now) text.now completion walk.old walk.new result }
+    requires { length text.now ≤ site.close }
+    ensures opens { Opens site.close site.syntax text.now completion result }
+    ensures goes { (means : List ℕ → Option (List ℕ)) (nested : ℕ → List ℕ → List Event → List Event) → Selects means max_depth nested (open_events nested site.depth (site.close - length text.now) text.now completion) (site.close - length text.now) text.now completion walk.old walk.new result }
 {
-    if depth > max_depth {
-        return Err(PropertyError::ExpansionDepthLimitExceeded(depth, max_depth));
+    if site.depth > max_depth {
+        return Err(PropertyError::ExpansionDepthLimitExceeded(site.depth, max_depth));
     }
-    begin_selected(completion, depth, walk);
-    let start = close - text.len();
+    begin_selected(completion, site.depth, walk);
+    let start = site.close - text.len();
     Ok(Some(ExpansionFrame {
         start,
         cursor: start,
-        end: close,
-        syntax: selected_syntax(syntax),
+        end: site.close,
+        syntax: selected_syntax(site.syntax),
         completion,
     }))
 }
 
-// Text that is selected in a frame of this depth, and ends at the close.
+// Text that an action selects: it is put out as it is, or it is the frame that has to be walked.
 fn select_text(
     text: &[u8],
     completion: FrameCompletion,
-    close: usize,
-    depth: usize,
-    syntax: PropertySyntax,
+    site: Site,
     max_depth: usize,
     walk: &mut Walk<'_, '_>,
 ) -> Result<Option<ExpansionFrame>, PropertyError>
-    requires { (length text.now ≤ close) × (Proper completion) }
-    ensures opens { Opens close syntax text.now completion result }
-    ensures goes { (means : List ℕ → Option (List ℕ)) (nested : ℕ → List ℕ → List Event → List Event) → Selects means max_depth nested (acts nested depth syntax (chosen close text.now completion)) (close - length text.now) text.now completion walk.old walk.new result }
+    requires { (length text.now ≤ site.close) × (Proper completion) }
+    ensures opens { Opens site.close site.syntax text.now completion result }
+    ensures goes { (means : List ℕ → Option (List ℕ)) (nested : ℕ → List ℕ → List Event → List Event) → Selects means max_depth nested (acts nested site.depth site.syntax (chosen site.close text.now completion)) (site.close - length text.now) text.now completion walk.old walk.new result }
 {
     walk.work.charge(text.len())?;
-    if needs_expansion(text, syntax) {
-        return open_selected(text, completion, close, depth, syntax, max_depth, walk);
+    if needs_expansion(text, site.syntax) {
+        return open_selected(text, completion, site, max_depth, walk);
     }
-    put_selected(text, completion, depth, walk)?;
+    put_selected(text, completion, site.depth, walk)?;
     Ok(None)
 }
 
-// What is done at a place of a frame of this depth, behind which `close` is the last byte that was read.
-// Answers the frame of selected text that has to be walked.
+// What an action does. Answers the frame of selected text that has to be walked.
 pub(crate) fn apply_action<S: PropertySource>(
-    source: &S,
+    given: &Given<'_, S>,
     action: Action<'_>,
-    close: usize,
-    depth: usize,
-    syntax: PropertySyntax,
-    max_depth: usize,
+    site: Site,
     walk: &mut Walk<'_, '_>,
 ) -> Result<Option<ExpansionFrame>, PropertyError>
-    requires { Askable (S.PropertySource.means source.now) close action }
-    ensures opens { OpensBy close syntax action.entry result }
-    ensures goes { (nested : ℕ → List ℕ → List Event → List Event) → Applies (S.PropertySource.means source.now) max_depth nested depth syntax close action.entry walk.old walk.new result }
+    requires { Askable (S.PropertySource.means given.now.source.now) site.close action }
+    ensures opens { OpensBy site.close site.syntax action.entry result }
+    ensures goes { (nested : ℕ → List ℕ → List Event → List Event) → Applies (S.PropertySource.means given.now.source.now) given.now.max_depth nested site.depth site.syntax site.close action.entry walk.old walk.new result }
 {
     match action {
         Action::Keep(byte) => walk.out.put_byte(byte),
         Action::Dollar => {
-            walk.marks.replace(depth);
+            walk.marks.replace(site.depth);
             walk.out.put_byte(b'$');
         }
         Action::Property(name, len) => {
-            walk.marks.replace(depth);
+            walk.marks.replace(site.depth);
             walk.marks.show(len);
-            walk.out.put_value(source, name, len);
+            walk.out.put_value(given.source, name, len);
         }
-        Action::Nothing => walk.marks.replace(depth),
+        Action::Nothing => walk.marks.replace(site.depth),
         Action::Interpolate(text, completion) => {
-            return select_text(text, completion, close, depth, syntax, max_depth, walk);
+            return select_text(text, completion, site, given.max_depth, walk);
         }
     }
     Ok(None)

@@ -14,7 +14,7 @@ ghost use Rattle.walk.specs.Outcomes.{call_told, call_total, frames_needed, told
 use crate::frame::ExpansionFrame;
 use crate::frames::walk_text;
 use crate::marks::Marks;
-use crate::state::Walk;
+use crate::state::{Given, Walk};
 use answers::{Answer, OutputTooShort};
 use budget::{WorkBudget, WorkFault};
 use names::PropertySyntax;
@@ -126,9 +126,12 @@ fn expand_text<S: PropertySource>(
         marks: Marks::default(),
         out: &mut out,
     };
-    let walked = walk_text(
-        source, text, first, syntax, &mut stack, max_depth, &mut walk,
-    );
+    let given = Given {
+        source,
+        text,
+        max_depth,
+    };
+    let walked = walk_text(&given, first, syntax, &mut stack, &mut walk);
     let changed = walk.marks.changed;
     *work = walk.work;
     settle(walked, changed, &mut out);

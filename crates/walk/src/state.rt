@@ -2,6 +2,14 @@ use crate::marks::Marks;
 use budget::WorkBudget;
 use output::Output;
 
+// What a walk is given, and leaves as it is.
+#[derive_where(Clone, Copy)]
+pub struct Given<'g, S> {
+    pub source: &'g S,
+    pub text: &'g [u8],
+    pub max_depth: usize,
+}
+
 // What a walk changes: the work that was done, the marks, and the text that was put out.
 // The output is lent: where a struct owns one, the check loses what is then in the area.
 #[derive(Drop)]

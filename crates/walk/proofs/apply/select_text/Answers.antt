@@ -19,7 +19,7 @@ returns-in_err-charge c =
     rw (p.1, p.2) (record {
       opens = tt;
       goes = λ means nested aim left es r.
-          let at = reach_same (acts_charge nested c.args.depth c.args.syntax c.args.close text es c.args.completion c.requires.1) r in
+          let at = reach_same (acts_charge nested c.args.site.depth c.args.site.syntax c.args.site.close text es c.args.completion c.requires.1) r in
           let is : Stopped aim (worked w₁ c.args.walk.now) (ExpansionWorkLimitExceeded w₁.total w.limit) = stop_charges _ (length text ∷ []) w₁.total e.work (b.off []) at in
           subst (λ (f : WorkFault). Stopped aim (worked w₁ c.args.walk.now) (ExpansionWorkLimitExceeded f.work f.limit)) (sym b.fault) is;
     })
@@ -34,7 +34,7 @@ returns-then-needs_expansion c =
     record {
       opens = c.open_selected.ensures.opens;
       goes = λ means nested aim left es r.
-          let at = reach_same (acts_open nested c.args.depth c.args.syntax c.args.close text es c.args.completion c.requires.1 c.if-needs_expansion.ensures) r in
+          let at = reach_same (acts_open nested c.args.site.depth c.args.site.syntax c.args.site.close text es c.args.completion c.requires.1 c.if-needs_expansion.ensures) r in
           c.open_selected.ensures.goes means nested aim left es (reach_charges _ (length text ∷ []) w₁.total e.work (q.on []) at);
     }
 
@@ -49,7 +49,7 @@ returns-in_err-put_selected c =
     rw (p.1, p.2) (record {
       opens = tt;
       goes = λ means nested aim left es r.
-          let at = reach_same (acts_put nested c.args.depth c.args.syntax c.args.close text es c.args.completion c.requires.1 c.if-needs_expansion.ensures) r in
+          let at = reach_same (acts_put nested c.args.site.depth c.args.site.syntax c.args.site.close text es c.args.completion c.requires.1 c.if-needs_expansion.ensures) r in
           c.in_err-put_selected.ensures means c.args.max_depth aim left es (reach_charges _ (length text ∷ []) w₁.total e.work (q.on []) at);
     })
 
@@ -63,6 +63,6 @@ returns c =
     record {
       opens = tt;
       goes = λ means nested aim left es r.
-          let at = reach_same (acts_put nested c.args.depth c.args.syntax c.args.close text es c.args.completion c.requires.1 c.if-needs_expansion.ensures) r in
+          let at = reach_same (acts_put nested c.args.site.depth c.args.site.syntax c.args.site.close text es c.args.completion c.requires.1 c.if-needs_expansion.ensures) r in
           c.in_ok-put_selected.ensures means c.args.max_depth aim left es (reach_charges _ (length text ∷ []) w₁.total e.work (q.on []) at);
     }

@@ -8,6 +8,6 @@ use Rattle.walk.proofs.frames.walk_frames.Goals as goal
 
 pub returns : goal.returns
 returns g c = λ aim r.
-    let m = g.S.PropertySource.means c.args.source.now in
+    let m = g.S.PropertySource.means c.args.given.now.source.now in
     let none = popped_none (held c.loop-frame.frames) c.pop.result c.in_default.is c.pop.ensures.says in
-    subst (λ l. Reached m c.args.max_depth aim (left l) (pending (shapes m) c.args.text.now 0 l []) c.loop-frame.walk) none (c.loop-frame.invariant.goes aim r)
+    subst (λ l. Reached m c.args.given.now.max_depth aim (left l) (pending (shapes m) c.args.given.now.text.now 0 l []) c.loop-frame.walk) none (c.loop-frame.invariant.goes aim r)

@@ -5,7 +5,7 @@ use Rattle.walk.proofs.frames.walk_frames.Given as goal
 
 abbrev pub invariant-loop-frame : goal.invariant-loop-frame
 invariant-loop-frame g l =
-    Walked (g.S.PropertySource.means l.source) l.max_depth l.text l.initial.frames l.initial.walk l.frames l.walk
+    Walked (g.S.PropertySource.means l.given.source.now) l.given.max_depth l.given.text.now l.initial.frames l.initial.walk l.frames l.walk
 
 abbrev pub decreases-loop-frame : goal.decreases-loop-frame
 decreases-loop-frame g l = measure (held l.frames)

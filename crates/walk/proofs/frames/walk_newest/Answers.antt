@@ -36,8 +36,8 @@ finish_frame-requires g c =
 pub returns-in_default : goal.returns-in_default
 returns-in_default g c =
     let e = c.in_ok-nested.ensures in
-    let m = g.S.PropertySource.means c.args.source.now in
-    let text = c.args.text.now in
+    let m = g.S.PropertySource.means c.args.given.now.source.now in
+    let text = c.args.given.now.text.now in
     let xs = held c.args.frames.now in
     let x = c.args.frame in
     let y = c.walk_frame.new.frame in
@@ -48,16 +48,16 @@ returns-in_default g c =
       goes = λ aim r.
           let es = pending (shapes m) text 0 xs [] in
           let to = e.goes (fuel xs x c.requires) aim (left xs) (completed x.completion (part text x.start x.end) es) (reach_newest xs x c.requires (c.len-depth.result + 1) d r) in
-          let at = subst (λ o. Framed m c.args.max_depth text aim (fuel xs x c.requires) (c.len-depth.result + 1) (left xs) (completed x.completion (part text x.start x.end) es) y st (Ok o)) c.in_default.is to in
-          c.finish_frame.ensures m c.args.max_depth aim (left xs) es (reach_same (ap (λ (z : ExpansionFrame). completed z.completion (part text z.start z.end) es) (sym e.frame)) at);
+          let at = subst (λ o. Framed m c.args.given.now.max_depth text aim (fuel xs x c.requires) (c.len-depth.result + 1) (left xs) (completed x.completion (part text x.start x.end) es) y st (Ok o)) c.in_default.is to in
+          c.finish_frame.ensures m c.args.given.now.max_depth aim (left xs) es (reach_same (ap (λ (z : ExpansionFrame). completed z.completion (part text z.start z.end) es) (sym e.frame)) at);
       memory = refl;
     }
 
 pub returns : goal.returns
 returns g c =
     let e = c.in_ok-nested.ensures in
-    let m = g.S.PropertySource.means c.args.source.now in
-    let text = c.args.text.now in
+    let m = g.S.PropertySource.means c.args.given.now.source.now in
+    let text = c.args.given.now.text.now in
     let xs = held c.args.frames.now in
     let x = c.args.frame in
     let y = c.walk_frame.new.frame in
@@ -77,8 +77,8 @@ returns g c =
       goes = λ aim r.
           let es = completed x.completion (part text x.start x.end) (pending (shapes m) text 0 xs []) in
           let to = e.goes (fuel xs x c.requires) aim (left xs) es (reach_newest xs x c.requires (c.len-depth.result + 1) d r) in
-          let at = subst (λ o. Framed m c.args.max_depth text aim (fuel xs x c.requires) (c.len-depth.result + 1) (left xs) es y st (Ok o)) c.in-Some.is to in
-          let at₁ = subst (λ z. Framed m c.args.max_depth text aim (fuel xs x c.requires) (c.len-depth.result + 1) (left xs) es z st (Ok (Some n))) e.frame at in
-          subst (λ l. Reached m c.args.max_depth aim (left l) (pending (shapes m) text 0 l []) st) (sym both) (reach_nested xs x c.requires (c.len-depth.result + 1) d k n at₁);
+          let at = subst (λ o. Framed m c.args.given.now.max_depth text aim (fuel xs x c.requires) (c.len-depth.result + 1) (left xs) es y st (Ok o)) c.in-Some.is to in
+          let at₁ = subst (λ z. Framed m c.args.given.now.max_depth text aim (fuel xs x c.requires) (c.len-depth.result + 1) (left xs) es z st (Ok (Some n))) e.frame at in
+          subst (λ l. Reached m c.args.given.now.max_depth aim (left l) (pending (shapes m) text 0 l []) st) (sym both) (reach_nested xs x c.requires (c.len-depth.result + 1) d k n at₁);
       memory = ap length c.push-2.ensures.memory ∙ simp length-set slots;
     }

@@ -12,13 +12,13 @@ use Rattle.walk.proofs.frames.walk_text.Goals as goal
 pub returns-in_err-charge : goal.returns-in_err-charge
 returns-in_err-charge g c =
     let e = c.in_err-charge.ensures in
-    let sh = shapes (g.S.PropertySource.means c.args.source.now) in
+    let sh = shapes (g.S.PropertySource.means c.args.given.now.source.now) in
     let p = err_from_is_err_and c.from_residual.result c.from_residual.ensures.1 in
-    rw (p.1, p.2) (λ aim r. stop_charge (c.args.first + 1) e.work _ e.says (reach_same (begins_walked sh c.args.syntax c.args.text.now c.args.first c.requires.place) r))
+    rw (p.1, p.2) (λ aim r. stop_charge (c.args.first + 1) e.work _ e.says (reach_same (begins_walked sh c.args.syntax c.args.given.now.text.now c.args.first c.requires.place) r))
 
 pub walk_frames-requires : goal.walk_frames-requires
 walk_frames-requires g c =
-    let text = c.args.text.now in
+    let text = c.args.given.now.text.now in
     let slots : length (memory c.push.new.self) ≡ length (memory c.args.frames.now) = ap length c.push.ensures.memory ∙ simp length-set in
     let none = ap length c.requires.none in
     let one : held c.push.new.self ≡ root_frame c.args.syntax text ∷ []
@@ -28,8 +28,8 @@ walk_frames-requires g c =
 pub returns : goal.returns
 returns g c =
     let e = c.in_ok-charge.ensures in
-    let m = g.S.PropertySource.means c.args.source.now in
-    let text = c.args.text.now in
+    let m = g.S.PropertySource.means c.args.given.now.source.now in
+    let text = c.args.given.now.text.now in
     let s = c.args.syntax in
     let none = ap length c.requires.none in
     let one : held c.push.new.self ≡ root_frame s text ∷ []
@@ -37,4 +37,4 @@ returns g c =
     λ aim r.
     let at = reach_charge (c.args.first + 1) e.work e.says (reach_same (begins_walked (shapes m) s text c.args.first c.requires.place) r) in
     let in-root = reach_less (left (root_frame s text ∷ [])) (omega arith) (reach_same (root_events (shapes m) s text) at) in
-    c.walk_frames.ensures aim (subst (λ l. Reached m c.args.max_depth aim (left l) (pending (shapes m) text 0 l []) (worked c.charge.new.self c.args.walk.now)) (sym one) in-root)
+    c.walk_frames.ensures aim (subst (λ l. Reached m c.args.given.now.max_depth aim (left l) (pending (shapes m) text 0 l []) (worked c.charge.new.self c.args.walk.now)) (sym one) in-root)

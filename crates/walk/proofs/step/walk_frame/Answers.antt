@@ -55,7 +55,7 @@ returns-in-Some-2 g c =
       frame = ap (λ z. moved z c.in-Some.step.next) inv.frame;
       nested = walk_nests inv c.requires e.work _ c.in-Some.step c.in-Some.is e.says e.within st n opens;
       goes = walk_nested inv c.requires e.work _ c.in-Some.step c.in-Some.is e.says e.within st n opens
-          (subst (λ o. (nested : ℕ → List ℕ → List Event → List Event) → Applies (g.S.PropertySource.means c.args.source.now) c.args.max_depth nested c.args.depth c.loop-step.frame.syntax (c.in-Some.step.next - 1) c.in-Some.step.action (worked c.look_at.new.work c.loop-step.walk) st (Ok o)) c.in-Some-2.is a.goes);
+          (subst (λ o. (nested : ℕ → List ℕ → List Event → List Event) → Applies (g.S.PropertySource.means c.args.given.now.source.now) c.args.given.now.max_depth nested c.args.depth c.loop-step.frame.syntax (c.in-Some.step.next - 1) c.in-Some.step.action (worked c.look_at.new.work c.loop-step.walk) st (Ok o)) c.in-Some-2.is a.goes);
     }
 
 pub loop-step-preserved : goal.loop-step-preserved
