@@ -101,22 +101,20 @@ fn answer(
 
 // Walks a text whose first `$` is at `first`.
 fn expand_text<S: PropertySource>(
-    text: &[u8],
+    given: &Given<'_, S>,
     first: usize,
-    source: &S,
     syntax: PropertySyntax,
-    max_depth: usize,
     work: &mut WorkBudget,
     frames: &mut [ExpansionFrame],
     area: &mut [u8],
 ) -> Result<Answer, InterpolateError>
-    requires small { length text.now ≤ text_max }
-    requires enough { frames_needed (length text.now) ≤ length frames.old }
-    requires place { Some first ≡ first_dollar 0 text.now }
-    requires within { first < length text.now }
-    ensures answer { result ≡ answer_of (told_by (values (S.PropertySource.means source.now)) (length area.old) (walk_of (S.PropertySource.means source.now) syntax max_depth work.old text.now)) }
-    ensures area { area.new ≡ area_of (length area.old) (told_by (values (S.PropertySource.means source.now)) (length area.old) (walk_of (S.PropertySource.means source.now) syntax max_depth work.old text.now)) }
-    ensures total { work.new.total ≡ total_left (walk_of (S.PropertySource.means source.now) syntax max_depth work.old text.now) }
+    requires small { length given.now.text.now ≤ text_max }
+    requires enough { frames_needed (length given.now.text.now) ≤ length frames.old }
+    requires place { Some first ≡ first_dollar 0 given.now.text.now }
+    requires within { first < length given.now.text.now }
+    ensures answer { result ≡ answer_of (told_by (values (S.PropertySource.means given.now.source.now)) (length area.old) (walk_of (S.PropertySource.means given.now.source.now) syntax given.now.max_depth work.old given.now.text.now)) }
+    ensures area { area.new ≡ area_of (length area.old) (told_by (values (S.PropertySource.means given.now.source.now)) (length area.old) (walk_of (S.PropertySource.means given.now.source.now) syntax given.now.max_depth work.old given.now.text.now)) }
+    ensures total { work.new.total ≡ total_left (walk_of (S.PropertySource.means given.now.source.now) syntax given.now.max_depth work.old given.now.text.now) }
     ensures limit { work.new.limit ≡ work.old.limit }
 {
     let mut stack = Stack::new(frames);
@@ -126,12 +124,7 @@ fn expand_text<S: PropertySource>(
         marks: Marks::default(),
         out: &mut out,
     };
-    let given = Given {
-        source,
-        text,
-        max_depth,
-    };
-    let walked = walk_text(&given, first, syntax, &mut stack, &mut walk);
+    let walked = walk_text(given, first, syntax, &mut stack, &mut walk);
     let changed = walk.marks.changed;
     *work = walk.work;
     settle(walked, changed, &mut out);
@@ -185,14 +178,10 @@ pub fn interpolate_compose_style_with_limits<S: PropertySource>(
     let Some(first) = find_dollar(text) else {
         return keep_text(text.len(), work, area);
     };
-    expand_text(
-        text,
-        first,
+    let given = Given {
         source,
-        syntax,
-        max_nested_expansions,
-        work,
-        frames,
-        area,
-    )
+        text,
+        max_depth: max_nested_expansions,
+    };
+    expand_text(&given, first, syntax, work, frames, area)
 }

@@ -5,14 +5,14 @@ use Rattle.walk.proofs.interpolate.expand_text.Goals as goal
 
 pub returns : goal.returns
 returns g c =
-    let m = g.S.PropertySource.means c.args.source.now in
-    let text = c.args.text.now in
-    let deep = c.args.max_depth in
+    let m = g.S.PropertySource.means c.args.given.now.source.now in
+    let text = c.args.given.now.text.now in
+    let deep = c.args.given.now.max_depth in
     let w = c.args.work.now in
     let first = start m deep c.args.syntax _ text _ c.default.ensures.0 c.default.ensures.1 c.requires.small c.new-out.ensures.holds in
     let now = c.walk_text-walked.new.walk in
     let goes = c.walk_text-walked.ensures _ first in
-    let short = countable m c.args.syntax (limits deep w.limit) w.total text (g.S.PropertySource.laws.short c.args.source.now) c.requires.small in
+    let short = countable m c.args.syntax (limits deep w.limit) w.total text (g.S.PropertySource.laws.short c.args.given.now.source.now) c.requires.small in
     let loan = same_loan m deep _ now c.settle.new.out c.walk_text-walked.result goes in
     let back = settles_back _ now.out.now _ _ (search rules) c.settle.ensures in
     let end = end_of m deep _ now c.settle.new.out c.walk_text-walked.result short goes back in
