@@ -65,9 +65,7 @@ pub(crate) fn finish_frame(
     requires { (frame.start ≤ frame.end) × (frame.end ≤ length text.now) }
     ensures { (means : List ℕ → Option (List ℕ)) (deep : ℕ) → Ends means deep (λ left. left) (completed frame.completion (part text.now frame.start frame.end)) walk.old walk.new result }
 {
-    let start = frame.start;
-    let end = frame.end;
-    complete_frame(&text[start..end], frame.completion, walk)
+    complete_frame(&text[frame.start..frame.end], frame.completion, walk)
 }
 
 // Text that was selected and need not be walked: it is put out as it is.

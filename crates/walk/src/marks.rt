@@ -13,17 +13,13 @@ impl Marks {
     pub(crate) fn replace(&mut self, depth: usize)
         ensures { self.new ≡ marked_replaced depth self.old }
     {
-        if depth == 1 {
-            self.changed = true;
-        }
+        self.changed |= depth == 1;
     }
 
     // A value of this length is put out.
     pub(crate) fn show(&mut self, len: usize)
         ensures { self.new ≡ marked_shows len self.old }
     {
-        if len > 0 {
-            self.shows = true;
-        }
+        self.shows |= len > 0;
     }
 }
