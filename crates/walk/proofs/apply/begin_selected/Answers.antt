@@ -1,17 +1,18 @@
-use Rattle.std.proofs.Common.{◌≡◌, ◌∷◌, refl, ap, inl, inr}
-use Rattle.expansion.specs.Events.{begins, replaced}
-use Rattle.walk.specs.Frames.{begun_by}
-use Rattle.walk.proofs.Reaching.{reach_begins, reach_replaced, reach_same}
+use Rattle.std.proofs.Common.{refl, inl, inr}
+use Rattle.walk.proofs.Reaching.{reach_begins, reach_replaced}
 use Rattle.walk.proofs.apply.begin_selected.Goals as goal
 
 pub returns-in-Root : goal.returns-in-Root
-returns-in-Root c = λ means deep aim left es r.
+returns-in-Root c =
     let d = c.args.depth in
-    let is : begun_by d c.args.completion es ≡ replaced d ∷ es = elim c.in-Root.is [ inl e ↦ ap (λ k. begun_by d k es) e | inr e ↦ ap (λ k. begun_by d k es) e ] in
-    reach_replaced d c.replace.ensures (reach_same is r)
+    elim c.in-Root.is [
+      | inl e ↦ rw e (λ means deep aim left es r. reach_replaced d c.replace.ensures r)
+      | inr e ↦ rw e (λ means deep aim left es r. reach_replaced d c.replace.ensures r)
+    ]
 
 pub returns-in-RequiredButUnset : goal.returns-in-RequiredButUnset
-returns-in-RequiredButUnset c = λ means deep aim left es r.
-    let d = c.args.depth in
-    let is : begun_by d c.args.completion es ≡ begins ∷ es = elim c.in-RequiredButUnset.is [ inl p ↦ ap (λ k. begun_by d k es) p.1 | inr p ↦ ap (λ k. begun_by d k es) p.1 ] in
-    reach_begins refl refl (c.clear.ensures.holds aim.lent) (reach_same is r)
+returns-in-RequiredButUnset c =
+    elim c.in-RequiredButUnset.is [
+      | inl p ↦ rw p.1 (λ means deep aim left es r. reach_begins refl refl (c.clear.ensures.holds aim.lent) r)
+      | inr p ↦ rw p.1 (λ means deep aim left es r. reach_begins refl refl (c.clear.ensures.holds aim.lent) r)
+    ]
