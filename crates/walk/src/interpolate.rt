@@ -150,6 +150,7 @@ pub fn frames_needed(n: usize) -> usize
 }
 
 // Replaces the references in a text by what the source and the syntax say.
+#[tactic(auto, using(expansion::proofs::AllLaws::walk_laws, expansion::proofs::TrialLaws::trials))]
 pub fn interpolate_compose_style_with_limits<S: PropertySource>(
     text: &[u8],
     source: &S,
