@@ -50,8 +50,3 @@ shows_by_len len (Some (b ∷ bs)) e = let z : len ≡ suc (length bs) = cc in l
 pub len_of_value : (len : ℕ) (o : Option (List ℕ)) → Some len ≡ option_map length o → len ≡ length (bytes_of o)
 len_of_value len None e = let z : ◌≡◌ {A = ℕ} 0 1 = cc in absurd (omega arith)
 len_of_value len (Some v) e = cc
-
-pub opens_by : (close : ℕ) (s : PropertySyntax) (text : Bor (List ℕ)) (completion : FrameCompletion) (r : Result (Option ExpansionFrame) PropertyError) → Opens close s text.now completion r → OpensBy close s (Interpolate text completion) r
-opens_by close s text completion (Ok None) h = tt
-opens_by close s text completion (Ok (Some y)) h = h
-opens_by close s text completion (Err e) h = tt
