@@ -135,12 +135,3 @@ turns_by (Err e) h = tt
 pub record Walked (means : List ℕ → Option (List ℕ)) (deep : ℕ) (text : List ℕ) (frames : Stack ExpansionFrame) (before : Walk) (frames' : Stack ExpansionFrame) (after : Walk) : Type 0 where
   pub fit : Fit text (length (memory frames')) (held frames')
   pub goes : Runs means deep text (held frames) before (held frames') after (Ok tt)
-
-last_there : {T : Type 0} (x : T) (xs : List T) → slice_get (x ∷ xs) (length xs) ≡ None → ⊥
-last_there x [] e = let z : ◌≡◌ {A = ℕ} 0 1 = cc in omega arith
-last_there x (y ∷ ys) e = last_there y ys e
-
--- a stack without a last frame is empty
-pub popped_none : {T : Type 0} (xs : List T) (r : Option T) → r ≡ None → r ≡ slice_get xs (length xs - 1) → xs ≡ []
-popped_none [] r n e = refl
-popped_none (x ∷ xs) r n e = let k : suc (length xs) - 1 ≡ length xs = omega arith in absurd (last_there x xs (sym (ap (slice_get (x ∷ xs)) k) ∙ sym e ∙ n))
