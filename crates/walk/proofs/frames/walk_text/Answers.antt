@@ -16,15 +16,6 @@ returns-in_err-charge g c =
     let p = err_from_is_err_and c.from_residual.result c.from_residual.ensures.1 in
     rw (p.1, p.2) (λ aim r. stop_charge (c.args.first + 1) e.work _ e.says (reach_same (begins_walked sh c.args.syntax c.args.given.now.text.now c.args.first c.requires.place) r))
 
-pub walk_frames-requires : goal.walk_frames-requires
-walk_frames-requires g c =
-    let text = c.args.given.now.text.now in
-    let slots : length (memory c.push.new.self) ≡ length (memory c.args.frames.now) = ap length c.push.ensures.memory ∙ simp length-set in
-    let none = ap length c.requires.none in
-    let one : held c.push.new.self ≡ root_frame c.args.syntax text ∷ []
-    = pushed (held c.args.frames.now) (held c.push.new.self) (length (memory c.args.frames.now)) (root_frame c.args.syntax text) _ c.push.ensures.says c.push.ensures.elements (omega (arith, c.requires.enough)) ∙ ap (λ l. l ++ root_frame c.args.syntax text ∷ []) c.requires.none in
-    subst (Fit text (length (memory c.push.new.self))) (sym one) (root_fit c.args.syntax text _ (omega (arith, c.requires.within)) (omega (arith, c.requires.enough)))
-
 pub returns : goal.returns
 returns g c =
     let e = c.in_ok-charge.ensures in
