@@ -25,7 +25,3 @@ pub root_events : (sh : List ℕ → Shape) (s : PropertySyntax) (text : List �
 root_events sh s text =
     let n : length text ≡ length text - 0 = omega arith in
     ap₂ (λ f l. trace f 1 sh s 0 l []) n (sym (take_all (length text) text (omega arith)))
-
-pub root_fit : (s : PropertySyntax) (text : List ℕ) (slots : ℕ) → 0 < length text → length text / 5 < slots → Fit text slots (root_frame s text ∷ [])
-root_fit s text slots h k =
-    record { some = h; enough = k; held = omega arith; sound = (record { ordered = omega arith; within = omega arith; shorter = omega arith }, tt) }

@@ -1,4 +1,4 @@
-use Rattle.std.proofs.Common.{◌≡◌, ◌+◌, ◌<◌, [], ◌∷◌, ◌++◌, length, Some, Ok, sym, refl, ap, ◌∙◌, subst, arith, length-set}
+use Rattle.std.proofs.Common.{◌≡◌, ◌+◌, ◌<◌, [], ◌∷◌, ◌++◌, length, Some, Ok, sym, refl, ap, ◌∙◌, subst, arith, length-set, rules}
 use Rattle.std.proofs.lemmas.Result.{err_from_is_err_and}
 use Rattle.stack.specs.Held.{held, memory}
 use Rattle.source.specs.Shapes.{shapes}
@@ -67,11 +67,10 @@ returns g c =
     let d : c.len-depth.result + 1 ≡ length xs + 1 = ap (λ n. n + 1) c.len-depth.ensures in
     let nests = subst (λ o. Nested x.cursor k x.end (Ok o)) c.in-Some.is e.nested in
     let slots : length (memory c.push.new.self) ≡ length (memory c.args.frames.now) = ap length c.push.ensures.memory ∙ simp length-set in
-    let first : held c.push.new.self ≡ xs ++ moved x k ∷ []
-    = pushed xs _ _ y _ c.push.ensures.says c.push.ensures.elements (room_first xs x c.requires k n nests) ∙ ap (λ z. xs ++ z ∷ []) e.frame in
+    let space = room_first xs x c.requires k n nests in
+    let first : held c.push.new.self ≡ xs ++ moved x k ∷ [] = search rules in
     let room : length (held c.push.new.self) < length (memory c.push.new.self) = omega (arith, ap length first, slots, room_second xs x c.requires k n nests) in
-    let both : held c.push-2.new.self ≡ (xs ++ moved x k ∷ []) ++ n ∷ []
-    = pushed (held c.push.new.self) _ _ n _ c.push-2.ensures.says c.push-2.ensures.elements room ∙ ap (λ l. l ++ n ∷ []) first in
+    let both : held c.push-2.new.self ≡ (xs ++ moved x k ∷ []) ++ n ∷ [] = search rules in
     record {
       turns = subst (Turned text (length (memory c.args.frames.now)) (xs ++ x ∷ [])) (sym both) (turned_nested xs x c.requires k n nests);
       goes = λ aim r.

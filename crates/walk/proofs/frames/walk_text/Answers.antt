@@ -1,4 +1,4 @@
-use Rattle.std.proofs.Common.{◌≡◌, ◌+◌, [], ◌∷◌, ◌++◌, length, sym, ap, ◌∙◌, subst, arith, length-set}
+use Rattle.std.proofs.Common.{◌≡◌, ◌+◌, [], ◌∷◌, ◌++◌, length, sym, ap, ◌∙◌, subst, arith, length-set, rules}
 use Rattle.std.proofs.lemmas.Result.{err_from_is_err_and}
 use Rattle.stack.specs.Held.{held, memory}
 use Rattle.source.specs.Shapes.{shapes}
@@ -6,7 +6,7 @@ use Rattle.walk.specs.Frames.{Reached, worked}
 use Rattle.walk.specs.Stacks.{Fit, left, pending}
 use Rattle.walk.proofs.Reaching.{reach_charge, reach_less, reach_same, stop_charge}
 use Rattle.walk.proofs.Stacking.{pushed}
-use Rattle.walk.proofs.Starting.{begins_walked, root_events, root_fit, root_frame}
+use Rattle.walk.proofs.Starting.{begins_walked, root_events, root_frame}
 use Rattle.walk.proofs.frames.walk_text.Goals as goal
 
 pub returns-in_err-charge : goal.returns-in_err-charge
@@ -22,9 +22,7 @@ returns g c =
     let m = g.S.PropertySource.means c.args.given.now.source.now in
     let text = c.args.given.now.text.now in
     let s = c.args.syntax in
-    let none = ap length c.requires.none in
-    let one : held c.push.new.self ≡ root_frame s text ∷ []
-    = pushed (held c.args.frames.now) (held c.push.new.self) (length (memory c.args.frames.now)) (root_frame c.args.syntax text) _ c.push.ensures.says c.push.ensures.elements (omega (arith, c.requires.enough)) ∙ ap (λ l. l ++ root_frame c.args.syntax text ∷ []) c.requires.none in
+    let one : held c.push.new.self ≡ root_frame s text ∷ [] = search rules in
     λ aim r.
     let at = reach_charge (c.args.first + 1) e.work e.says (reach_same (begins_walked (shapes m) s text c.args.first c.requires.place) r) in
     let in-root = reach_less (left (root_frame s text ∷ [])) (omega arith) (reach_same (root_events (shapes m) s text) at) in
