@@ -1,5 +1,5 @@
 -- Selected text: its events by how it is completed, and the values of properties.
-use Rattle.std.proofs.Common.{◌≡◌, ℕ, suc, ◌-◌, true, false, ◌||◌, ltb, List, [], ◌∷◌, length, Some, None, Ok, Err, Option, Result, sym, refl, ap, arith, Bor}
+use Rattle.std.proofs.Common.{◌≡◌, ℕ, suc, ◌-◌, true, false, ◌||◌, ltb, List, [], ◌∷◌, length, Some, None, Option, sym, refl, ap, arith}
 use Rattle.std.specs.Option.{option_map}
 use Rattle.std.proofs.lemmas.Bool.{lt-ltb}
 use Rattle.names.specs.declared.PropertySyntax.{PropertySyntax}
@@ -10,10 +10,7 @@ use Rattle.items.specs.Pieces.{is_filled}
 use Rattle.items.specs.Items.{expands}
 use Rattle.items.specs.Looks.{chosen}
 use Rattle.expansion.specs.Events.{Event, acts, charge, explained, message, selected}
-use Rattle.walk.specs.Frames.{Opens, OpensBy, Proper, open_events, put_events}
-use Rattle.references.specs.declared.error.PropertyError.{PropertyError}
-use Rattle.items.specs.declared.action.Action.TheVariants.{Interpolate}
-use Rattle.walk.specs.declared.frame.ExpansionFrame.{ExpansionFrame}
+use Rattle.walk.specs.Frames.{Proper, open_events, put_events}
 
 module _ (nested : ℕ → List ℕ → List Event → List Event) (d : ℕ) (s : PropertySyntax) (close : ℕ) (w : List ℕ) (es : List Event) where
   pub acts_open : (completion : FrameCompletion) → Proper completion → true ≡ expands s w → acts nested d s (chosen close w completion) es ≡ charge (length w) ∷ open_events nested d (close - length w) w completion es

@@ -1,9 +1,7 @@
 -- The frames that are open, with one more on top.
-use Rattle.std.proofs.Common.{◌≡◌, ℕ, suc, ◌+◌, ◌-◌, ◌<◌, cond, ltb, List, [], ◌∷◌, ◌++◌, length, is_ok, None, Ok, Err, Option, Result, sym, refl, ap, ◌∙◌, subst, ap₂, add-zero, zero-add, arith, length-append}
-use Rattle.std.proofs.lemmas.Bool.{lt-ltb}
-use Rattle.std.specs.List.{slice_get}
+use Rattle.std.proofs.Common.{◌≡◌, ℕ, suc, ◌+◌, ◌-◌, ◌<◌, List, [], ◌∷◌, ◌++◌, length, Ok, Err, Option, Result, sym, ap, ◌∙◌, subst, ap₂, add-zero, zero-add, arith, length-append}
 use Rattle.stack.specs.declared.Stack.{Stack}
-use Rattle.stack.specs.Held.{held, memory, offered}
+use Rattle.stack.specs.Held.{held, memory}
 use Rattle.references.specs.declared.error.PropertyError.{PropertyError}
 use Rattle.source.specs.Shapes.{Shape, shapes}
 use Rattle.walk.specs.declared.frame.ExpansionFrame.{ExpansionFrame}
@@ -38,12 +36,6 @@ module _ (n : ℕ) where
       let e : i + 1 + length xs ≡ i + suc (length xs) = omega arith in
       let h = sound_less xs (i + 1) x s.1 in
       ((s.0, h.0), subst (λ k. Sound1 n k x) e h.1)
-
--- a frame that was offered to a stack with room for it
-pub pushed : {T : Type 0} (xs ys : List T) (slots : ℕ) (x : T) (r : Result (Unit {0}) T) → r ≡ offered (ltb (length xs) slots) x → ys ≡ cond (is_ok r) (xs ++ x ∷ []) xs → length xs < slots → ys ≡ xs ++ x ∷ []
-pushed {T} xs ys slots x r e h l =
-    let ok : r ≡ Ok tt = e ∙ ap (λ b. offered b x) (lt-ltb (length xs) slots l) in
-    h ∙ ap (λ (q : Result (Unit {0}) T). cond (is_ok q) (xs ++ x ∷ []) xs) ok
 
 module _ {text : List ℕ} {slots : ℕ} (xs : List ExpansionFrame) (x : ExpansionFrame) (fit : Fit text slots (xs ++ x ∷ [])) where
   pub newest : Sound1 (length text) (length xs) x

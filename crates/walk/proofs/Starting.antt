@@ -1,5 +1,5 @@
 -- How a walk begins.
-use Rattle.std.proofs.Common.{◌≡◌, ℕ, ◌+◌, ◌-◌, ◌/◌, ◌<◌, List, [], ◌∷◌, length, Some, None, sym, ap, ap₂, arith}
+use Rattle.std.proofs.Common.{◌≡◌, ℕ, ◌+◌, ◌-◌, List, [], ◌∷◌, length, Some, None, sym, ap, ap₂, arith}
 use Rattle.std.proofs.lemmas.List.{take_all}
 use Rattle.names.specs.declared.PropertySyntax.{PropertySyntax}
 use Rattle.source.specs.Shapes.{Shape}
@@ -7,7 +7,7 @@ use Rattle.items.specs.declared.action.FrameCompletion.TheVariants.{Root}
 use Rattle.items.specs.Pieces.{literal}
 use Rattle.walk.specs.declared.frame.ExpansionFrame.{ExpansionFrame}
 use Rattle.expansion.specs.Events.{begin, charge, emits, events, first_dollar, trace}
-use Rattle.walk.specs.Stacks.{Fit, pending}
+use Rattle.walk.specs.Stacks.{pending}
 
 module _ (sh : List ℕ → Shape) (s : PropertySyntax) (text : List ℕ) where
   pub begins_plain : None ≡ first_dollar 0 text → events sh s text ≡ charge (length text) ∷ emits (literal text) []

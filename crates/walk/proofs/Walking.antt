@@ -14,7 +14,7 @@ use Rattle.items.specs.Looks.{AskedLook, Ends, Stays, charges_at, look, looked_t
 use Rattle.walk.specs.declared.frame.ExpansionFrame.{ExpansionFrame}
 use Rattle.walk.specs.declared.state.Walk.{Walk}
 use Rattle.expansion.specs.Events.{Event, frame, trace}
-use Rattle.walk.specs.Frames.{Aim, Applied, Applies, Askable, Framed, Nests, Onward, OpensAt, Reached, Stopped, completed, completion_of, frame_events, frame_of, moved, part, rest, room_of, text_of, worked}
+use Rattle.walk.specs.Frames.{Aim, Applied, Applies, Askable, Framed, Onward, OpensAt, Reached, Stopped, completed, completion_of, frame_events, frame_of, moved, part, rest, room_of, text_of, worked}
 use Rattle.walk.proofs.Framing.{Found, Lies, found, found_lies, found_none, reach_end, reach_step, stop_look}
 use Rattle.walk.proofs.Reaching.{reach_less, reach_same}
 
@@ -126,20 +126,6 @@ module _ {means : List ℕ → Option (List ℕ)} {deep : ℕ} {text : List ℕ}
       opened = frame_of close y.syntax chosen (completion_of p.action)
 
       -- another is to be walked first
-      pub walk_nests : (n : ExpansionFrame) → OpensAt close y.syntax p.action n → Nests x.cursor p.next x.end n
-      walk_nests n opens =
-          let short = opens_short close y.syntax p.action n y.cursor (length xs) p.next opens ends in
-          let s0 = short.0 in
-          let s1 = short.1 in
-          let on = inv.on in
-          subst (Nests x.cursor p.next x.end) (sym (opens_is close y.syntax p.action n opens)) (record {
-            begins = refl;
-            ordered = omega arith;
-            within = omega (arith, size);
-            shorter = omega (arith, lies.fits);
-            inside = omega (arith, size);
-          })
-
       walk_opened : p.next ≤ length xs → Did (Ok (Some opened)) → (f : ℕ) (aim : Aim) (left : ℕ) (es : List Event)
           → Reached means deep aim (rest x + left) (frame_events (shapes means) text (suc f) d x es) before → Framed means deep text aim f d left es (moved y p.next) after (Ok (Some opened))
       walk_opened inside applied f aim left es r =

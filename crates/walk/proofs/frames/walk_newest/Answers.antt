@@ -1,4 +1,4 @@
-use Rattle.std.proofs.Common.{◌≡◌, ◌+◌, ◌<◌, [], ◌∷◌, ◌++◌, length, Some, Ok, sym, refl, ap, ◌∙◌, subst, arith, length-set, rules}
+use Rattle.std.proofs.Common.{◌≡◌, ◌+◌, ◌<◌, [], ◌∷◌, ◌++◌, length, Some, Ok, sym, refl, ap, subst, arith, rules}
 use Rattle.std.proofs.lemmas.Result.{err_from_is_err_and}
 use Rattle.stack.specs.Held.{held, memory}
 use Rattle.source.specs.Shapes.{shapes}
@@ -6,24 +6,19 @@ use Rattle.walk.specs.declared.frame.ExpansionFrame.{ExpansionFrame}
 use Rattle.walk.specs.Frames.{Framed, Reached, Nested, completed, moved, part}
 use Rattle.walk.specs.Stacks.{Turned, left, pending}
 use Rattle.walk.proofs.Reaching.{reach_same}
-use Rattle.walk.proofs.Stacking.{fuel, newest, pushed, reach_nested, reach_newest, room_first, room_second, turned_end, turned_nested, turns_by}
+use Rattle.walk.proofs.Stacking.{fuel, newest, reach_nested, reach_newest, room_first, room_second, turned_end, turned_nested, turns_by}
 use Rattle.walk.proofs.frames.walk_newest.Goals as goal
 
 pub walk_frame-requires : goal.walk_frame-requires
 walk_frame-requires g c = (newest (held c.args.frames.now) c.args.frame c.requires).within
 
-pub returns-in_err-nested : goal.returns-in_err-nested
-returns-in_err-nested g c =
-    let e = c.in_err-nested.ensures in
+pub returns-in_err-nested-clause-goes : goal.returns-in_err-nested-clause-goes
+returns-in_err-nested-clause-goes g c =
     let xs = held c.args.frames.now in
     let x = c.args.frame in
     let p = err_from_is_err_and c.from_residual.result c.from_residual.ensures.1 in
     let d : c.len-depth.result + 1 ≡ length xs + 1 = ap (λ n. n + 1) c.len-depth.ensures in
-    rw (p.1, p.2) (record {
-      turns = tt;
-      goes = λ aim r. e.goes (fuel xs x c.requires) aim (left xs) _ (reach_newest xs x c.requires (c.len-depth.result + 1) d r);
-      memory = refl;
-    })
+    rw (p.1, p.2) (λ aim r. c.in_err-nested.ensures.goes (fuel xs x c.requires) aim (left xs) _ (reach_newest xs x c.requires (c.len-depth.result + 1) d r))
 
 pub finish_frame-requires : goal.finish_frame-requires
 finish_frame-requires g c =
@@ -66,7 +61,7 @@ returns g c =
     let st = c.walk_frame.new.walk in
     let d : c.len-depth.result + 1 ≡ length xs + 1 = ap (λ n. n + 1) c.len-depth.ensures in
     let nests = subst (λ o. Nested x.cursor k x.end (Ok o)) c.in-Some.is e.nested in
-    let slots : length (memory c.push.new.self) ≡ length (memory c.args.frames.now) = ap length c.push.ensures.memory ∙ simp length-set in
+    let slots : length (memory c.push.new.self) ≡ length (memory c.args.frames.now) = search rules in
     let space = room_first xs x c.requires k n nests in
     let first : held c.push.new.self ≡ xs ++ moved x k ∷ [] = search rules in
     let room : length (held c.push.new.self) < length (memory c.push.new.self) = omega (arith, ap length first, slots, room_second xs x c.requires k n nests) in
@@ -79,5 +74,5 @@ returns g c =
           let at = subst (λ o. Framed m c.args.given.now.max_depth text aim (fuel xs x c.requires) (c.len-depth.result + 1) (left xs) es y st (Ok o)) c.in-Some.is to in
           let at₁ = subst (λ z. Framed m c.args.given.now.max_depth text aim (fuel xs x c.requires) (c.len-depth.result + 1) (left xs) es z st (Ok (Some n))) e.frame at in
           subst (λ l. Reached m c.args.given.now.max_depth aim (left l) (pending (shapes m) text 0 l []) st) (sym both) (reach_nested xs x c.requires (c.len-depth.result + 1) d k n at₁);
-      memory = ap length c.push-2.ensures.memory ∙ simp length-set slots;
+      memory = search rules;
     }

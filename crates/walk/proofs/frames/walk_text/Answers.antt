@@ -1,11 +1,10 @@
-use Rattle.std.proofs.Common.{◌≡◌, ◌+◌, [], ◌∷◌, ◌++◌, length, sym, ap, ◌∙◌, subst, arith, length-set, rules}
+use Rattle.std.proofs.Common.{◌≡◌, ◌+◌, [], ◌∷◌, sym, subst, arith, rules}
 use Rattle.std.proofs.lemmas.Result.{err_from_is_err_and}
-use Rattle.stack.specs.Held.{held, memory}
+use Rattle.stack.specs.Held.{held}
 use Rattle.source.specs.Shapes.{shapes}
 use Rattle.walk.specs.Frames.{Reached, worked}
-use Rattle.walk.specs.Stacks.{Fit, left, pending}
+use Rattle.walk.specs.Stacks.{left, pending}
 use Rattle.walk.proofs.Reaching.{reach_charge, reach_less, reach_same, stop_charge}
-use Rattle.walk.proofs.Stacking.{pushed}
 use Rattle.walk.proofs.Starting.{begins_walked, root_events, root_frame}
 use Rattle.walk.proofs.frames.walk_text.Goals as goal
 
