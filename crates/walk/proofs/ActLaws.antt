@@ -8,11 +8,10 @@ use Rattle.names.specs.Reads.{name_at, name_looks}
 use Rattle.closes.specs.Closes.{close}
 use Rattle.closes.specs.Fronts.{begins}
 use Rattle.source.specs.Shapes.{Shape, unset, empty, filled}
-use Rattle.references.specs.declared.error.PropertyError.{PropertyError}
-use Rattle.references.specs.declared.error.PropertyError.TheVariants as E
 use Rattle.references.specs.Operators.{plain, operated, Operator, default, alternate, error, Yield, value, nothing, word, refusal, posix, op_at}
 use Rattle.references.specs.Braces.{Brace, brace, reference, unclosed, with_close, with_name, with_op}
 use Rattle.items.specs.Pieces.{lit}
+use Rattle.walk.specs.Endings.{has_message}
 use Rattle.items.specs.Items.{Act, keep, replace, select, require, refuse, Item, allows_bare, bare_act, bare_item, bare_more, brace_act, brace_more, braced_item, dollar, item, plain_act, second, yield_act}
 
 -- the last bytes of a text
@@ -26,26 +25,17 @@ tail_drop n xs = record { front = take n xs; is = sym (take-append-drop n xs) }
 pub tail_trans : (a b c : List ℕ) → Tail a b → Tail b c → Tail a c
 tail_trans a b c p q = record { front = q.front ++ p.front; is = q.is ∙ ap (λ l. q.front ++ l) p.is ∙ sym (append_assoc q.front p.front a) }
 
--- a refusal that has no message
-abbrev pub Plain : PropertyError → Type 0
-Plain (E.Unresolved name) = Unit {0}
-Plain (E.InvalidName part) = Unit {0}
-Plain (E.RequiredButUnset name len) = ⊥
-Plain (E.RequiredButEmpty name len) = ⊥
-Plain (E.ExpansionDepthLimitExceeded depth limit) = ⊥
-Plain (E.ExpansionWorkLimitExceeded work limit) = ⊥
-
 -- an act at the front of xs that takes n bytes behind the first
 abbrev pub Fine : List ℕ → ℕ → Act → Type 0
 Fine xs n (keep b) = n ≡ 0
 Fine xs n (replace ps) = Unit {0}
 Fine xs n (select at w) = Tail w (take n xs)
 Fine xs n (require sh name at w) = Tail w (take n xs)
-Fine xs n (refuse e) = Plain e
+Fine xs n (refuse e) = has_message e ≡ false
 
 plain_fine : (xs : List ℕ) (n : ℕ) (s : PropertySyntax) (sh : Shape) (from : ℕ) (name : List ℕ) → Fine xs n (plain_act s sh from name)
-plain_fine xs n Braced unset from name = tt
-plain_fine xs n BracedOrBare unset from name = tt
+plain_fine xs n Braced unset from name = refl
+plain_fine xs n BracedOrBare unset from name = refl
 plain_fine xs n DockerCompose unset from name = tt
 plain_fine xs n s empty from name = tt
 plain_fine xs n s filled from name = tt
@@ -64,7 +54,7 @@ module _ (sh : List ℕ → Shape) (s : PropertySyntax) (i left a b : ℕ) (cs :
   unclosed_fine : (s : PropertySyntax) → Fine (a ∷ b ∷ cs) 0 (brace_act sh s i left unclosed)
   unclosed_fine Braced = refl
   unclosed_fine BracedOrBare = refl
-  unclosed_fine DockerCompose = tt
+  unclosed_fine DockerCompose = refl
 
   -- a word at the end of the bytes before the close
   lifted : (k : ℕ) (w : List ℕ) → Tail w (take k cs) → Tail w (take (k + 2) (a ∷ b ∷ cs))
@@ -91,10 +81,10 @@ module _ (sh : List ℕ → Shape) (s : PropertySyntax) (i left a b : ℕ) (cs :
       go false false false false true x y = one alternate false 1
       go false false false false false true y = one error true 2
       go false false false false false false true = one error false 1
-      go false false false false false false false = tt
+      go false false false false false false false = refl
 
   name_fine : (k n : ℕ) (t : Bool) → BraceFine (with_name k (cond t None (Some (take n (take k cs), drop n (take k cs)))))
-  name_fine k n true = tt
+  name_fine k n true = refl
   name_fine k n false = op_fine k (take n (take k cs)) (drop n (take k cs)) (tail_drop n (take k cs))
 
   close_fine : (o : Option ℕ) → BraceFine (with_close s cs o)

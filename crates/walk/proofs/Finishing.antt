@@ -27,15 +27,6 @@ use Rattle.walk.specs.Outcomes.{call_told, call_total, frames_needed, limits, to
 use Rattle.walk.proofs.Runs.{after, run_charges}
 use Rattle.walk.proofs.Starting.{begins_plain}
 
--- what the output holds, once it was cleared where nothing is to be kept
-pub kept_all : (b : Bool) (out : Output) (lent : MutBor (List ℕ)) (text : List ℕ) → b ≡ true → Holds out lent text → Holds out lent (kept b text)
-kept_all true out lent text e h = h
-kept_all false out lent text e h = let z : ◌≡◌ {A = ℕ} 0 1 = cc in absurd (omega arith)
-
-pub kept_none : (b : Bool) (out : Output) (lent : MutBor (List ℕ)) (text : List ℕ) → b ≡ false → Holds out lent [] → Holds out lent (kept b text)
-kept_none false out lent text e h = h
-kept_none true out lent text e h = let z : ◌≡◌ {A = ℕ} 0 1 = cc in absurd (omega arith)
-
 -- an output that is settled once its loan is over
 pub settles_back : (b : Bool) (out before last : Output) → before ≡ out → Settles b before last → Settles b out last
 settles_back b out before last e s = subst (λ o. Settles b o last) e s
@@ -86,14 +77,9 @@ pub record EndOf (v : List ℕ → List ℕ) (lent : MutBor (List ℕ)) (whole :
   pub area : closed (length lent.now) (length text) text ≡ area_of (length lent.now) (told_by v (length lent.now) whole)
   pub total : w.total ≡ total_left whole
 
-module _ (lent : MutBor (List ℕ)) (out out' : Output) where
-  told_kept : (e : PropertyError) (told old : List ℕ) → Tells out lent e told → Holds out lent old → Settles (has_message e) out out' → Holds out' lent told
-  told_kept (E.Unresolved name) told old t h s = subst (Holds out' lent) (sym t) (s lent old h)
-  told_kept (E.InvalidName part) told old t h s = subst (Holds out' lent) (sym t) (s lent old h)
-  told_kept (E.RequiredButUnset name len) told old t h s = s lent told t
-  told_kept (E.RequiredButEmpty name len) told old t h s = s lent told t
-  told_kept (E.ExpansionDepthLimitExceeded depth limit) told old t h s = subst (Holds out' lent) (sym t) (s lent old h)
-  told_kept (E.ExpansionWorkLimitExceeded work limit) told old t h s = subst (Holds out' lent) (sym t) (s lent old h)
+told_kept : (lent : MutBor (List ℕ)) (out out' : Output) (b : Bool) (told old : List ℕ) → Tells b out lent told → Holds out lent old → Settles b out out' → Holds out' lent told
+told_kept lent out out' true told old t h s = s lent told t
+told_kept lent out out' false told old t h s = subst (Holds out' lent) (sym t) (s lent old h)
 
 -- the text of a walk that ended is not too long to be counted
 abbrev pub Countable : (List ℕ → List ℕ) → Outcome → Type 0
@@ -142,7 +128,7 @@ module _ (means : List ℕ → Option (List ℕ)) (deep : ℕ) (aim : Aim) (now 
   end_of (Err x) short r s =
       subst (λ o. EndOf (values means) aim.lent o now.work (Err x) now.marks.changed out') (sym r.is) (record {
         text = r.told;
-        holds = told_kept aim.lent now.out.now out' x r.told r.old r.tells r.holds s;
+        holds = told_kept aim.lent now.out.now out' (has_message x) r.told r.old r.tells r.holds s;
         answers = λ fit e. answer_fits (length aim.lent.now) r.told r.short (Err x) now.marks.changed fit e;
         area = area_fits (length aim.lent.now) r.told (refused (Refused x) r.told) refl;
         total = refl;

@@ -1,5 +1,5 @@
 -- A frame, item by item.
-use Rattle.std.proofs.Common.{◌≡◌, ℕ, zero, suc, ◌+◌, ◌-◌, ◌≤◌, List, [], ◌∷◌, ◌++◌, length, take, drop, Some, None, Ok, Err, Option, Result, sym, refl, ap, ◌∙◌, subst, ap₂, append_assoc, add-zero, arith, length-append, take-append-drop, Bor, MutBor}
+use Rattle.std.proofs.Common.{◌≡◌, ℕ, zero, suc, ◌+◌, ◌-◌, ◌≤◌, false, List, [], ◌∷◌, ◌++◌, length, take, drop, Some, None, Ok, Err, Option, Result, sym, refl, ap, ◌∙◌, subst, ap₂, append_assoc, add-zero, arith, length-append, take-append-drop, Bor, MutBor}
 use Rattle.std.proofs.lemmas.List.{drop-drop, drop-take, length-take-le, take-take}
 use Rattle.budget.specs.declared.WorkBudget.{WorkBudget}
 use Rattle.budget.specs.Charges.{Work, taken, over, spent, works}
@@ -19,8 +19,9 @@ use Rattle.output.specs.declared.Output.{Output}
 use Rattle.walk.specs.declared.state.Walk.{Walk}
 use Rattle.expansion.specs.Events.{Event, acts, charges, frame}
 use Rattle.expansion.specs.Walks.{run}
+use Rattle.walk.specs.Endings.{has_message}
 use Rattle.walk.specs.Frames.{Aim, Proper, Reached, Selectable, Stopped, Tells, room_of, text_of, worked}
-use Rattle.walk.proofs.ActLaws.{Fine, Plain, Tail, item_fine}
+use Rattle.walk.proofs.ActLaws.{Fine, Tail, item_fine}
 use Rattle.walk.proofs.Reaching.{reach_charges, reach_same, stop_charges}
 
 module _ (nested : ℕ → List ℕ → List Event → List Event) (d : ℕ) (s : PropertySyntax) (sh : List ℕ → Shape) where
@@ -75,19 +76,17 @@ module _ (sh : List ℕ → Shape) (s : PropertySyntax) (w : WorkBudget) (i : �
   found_by : (p : Step) (b : ℕ) (bs : List ℕ) → drop i xs ≡ b ∷ bs → (v : Work) → works w (item sh s i b bs).looks ≡ v → (a : Act) → (item sh s i b bs).act ≡ a
       → Ok (Some (step_of p)) ≡ some_looked (judged v w.limit (with_next (acted a) (i + 1 + (item sh s i b bs).more))) → Found sh s w i xs p
   found_by p b bs at (over t) h a g e = let z : ◌≡◌ {A = ℕ} 0 1 = cc in absurd (omega arith)
-  found_by p b bs at (taken t) h (refuse x) g e = let z : ◌≡◌ {A = ℕ} 0 1 = cc in absurd (omega arith)
-  found_by p b bs at (taken t) h (keep x) g e =
-      let q : step_of p ≡ record { act = keep x; next = i + 1 + (item sh s i b bs).more } = cc in
-      record { byte = b; behind = bs; at = at; total = t; paid = h; does = ap (λ (l : Looked). l.act) q ∙ sym g; ends = ap (λ (l : Looked). l.next) q }
-  found_by p b bs at (taken t) h (replace x) g e =
-      let q : step_of p ≡ record { act = replace x; next = i + 1 + (item sh s i b bs).more } = cc in
-      record { byte = b; behind = bs; at = at; total = t; paid = h; does = ap (λ (l : Looked). l.act) q ∙ sym g; ends = ap (λ (l : Looked). l.next) q }
-  found_by p b bs at (taken t) h (select x y) g e =
-      let q : step_of p ≡ record { act = select x y; next = i + 1 + (item sh s i b bs).more } = cc in
-      record { byte = b; behind = bs; at = at; total = t; paid = h; does = ap (λ (l : Looked). l.act) q ∙ sym g; ends = ap (λ (l : Looked). l.next) q }
-  found_by p b bs at (taken t) h (require x y u v) g e =
-      let q : step_of p ≡ record { act = require x y u v; next = i + 1 + (item sh s i b bs).more } = cc in
-      record { byte = b; behind = bs; at = at; total = t; paid = h; does = ap (λ (l : Looked). l.act) q ∙ sym g; ends = ap (λ (l : Looked). l.next) q }
+  found_by p b bs at (taken t) h a g e = go a g e
+    where
+      seen : (a : Act) → (item sh s i b bs).act ≡ a → step_of p ≡ record { act = a; next = i + 1 + (item sh s i b bs).more } → Found sh s w i xs p
+      seen a g q = record { byte = b; behind = bs; at = at; total = t; paid = h; does = ap (λ (l : Looked). l.act) q ∙ sym g; ends = ap (λ (l : Looked). l.next) q }
+
+      go : (a : Act) → (item sh s i b bs).act ≡ a → Ok (Some (step_of p)) ≡ some_looked (judged (taken t) w.limit (with_next (acted a) (i + 1 + (item sh s i b bs).more))) → Found sh s w i xs p
+      go (refuse x) g e = let z : ◌≡◌ {A = ℕ} 0 1 = cc in absurd (omega arith)
+      go (keep x) g e = seen _ g cc
+      go (replace x) g e = seen _ g cc
+      go (select x y) g e = seen _ g cc
+      go (require x y u v) g e = seen _ g cc
 
   found_in : (p : Step) (ys : List ℕ) → drop i xs ≡ ys → Ok (Some (step_of p)) ≡ look sh s i w ys → Found sh s w i xs p
   found_in p [] at e = let z : ◌≡◌ {A = ℕ} 0 1 = cc in absurd (omega arith)
@@ -107,14 +106,6 @@ module _ (sh : List ℕ → Shape) (s : PropertySyntax) (w : WorkBudget) (i : �
   -- nothing is left
   pub found_none : Ok None ≡ look sh s i w (drop i xs) → drop i xs ≡ []
   found_none e = none_in (drop i xs) refl e
-
-tells_plain : (out : Output) (lent : MutBor (List ℕ)) (e : PropertyError) → Plain e → Tells out lent e []
-tells_plain out lent (E.Unresolved name) p = refl
-tells_plain out lent (E.InvalidName part) p = refl
-tells_plain out lent (E.RequiredButUnset name len) p = absurd p
-tells_plain out lent (E.RequiredButEmpty name len) p = absurd p
-tells_plain out lent (E.ExpansionDepthLimitExceeded depth limit) p = absurd p
-tells_plain out lent (E.ExpansionWorkLimitExceeded work limit) p = absurd p
 
 module _ {means : List ℕ → Option (List ℕ)} {deep : ℕ} {aim : Aim} {left : ℕ} {now : Walk} {w : WorkBudget} (nested : ℕ → List ℕ → List Event → List Event) (d : ℕ) (s : PropertySyntax) (i : ℕ) (xs : List ℕ) (es : List Event)
     (spends : w ≡ spent now.work (charges_at (shapes means) s i (drop i xs))) (r : Reached means deep aim left (frame nested d s (shapes means) i (drop i xs) 0 es) now) where
@@ -141,10 +132,10 @@ module _ {means : List ℕ → Option (List ℕ)} {deep : ℕ} {aim : Aim} {left
       subst (Stopped aim (worked w now)) (sym is) (stop_charges _ _ t (spends ∙ ap (λ l. spent now.work (charges_at (shapes means) s i l)) at) h (reach_same (frame_item nested d s (shapes means) i b bs xs es at) r))
   stop_by e b bs at (taken t) h (refuse x) g q =
       let is : e ≡ x = cc in
-      let fine : Plain x = subst (Fine (b ∷ bs) (item (shapes means) s i b bs).more) g (item_fine (shapes means) s i b bs) in
+      let fine : has_message x ≡ false = subst (Fine (b ∷ bs) (item (shapes means) s i b bs).more) g (item_fine (shapes means) s i b bs) in
       let on = reach_charges _ _ t (spends ∙ ap (λ l. spent now.work (charges_at (shapes means) s i l)) at) h (reach_same (frame_item nested d s (shapes means) i b bs xs es at) r) in
       let end = reach_same (ap (λ a. acts nested d s a (frame nested d s (shapes means) (i + 1 + (item (shapes means) s i b bs).more) (drop (i + 1 + (item (shapes means) s i b bs).more) xs) 0 es)) g) on in
-      subst (Stopped aim (worked w now)) (sym is) (record { loan = end.loan; limit = end.limit; told = []; is = sym end.goes; short = omega arith; tells = tells_plain now.out.now aim.lent x fine; old = spelled (values means) end.pieces; holds = end.holds })
+      subst (Stopped aim (worked w now)) (sym is) (record { loan = end.loan; limit = end.limit; told = []; is = sym end.goes; short = omega arith; tells = subst (λ b. Tells b now.out.now aim.lent []) (sym fine) refl; old = spelled (values means) end.pieces; holds = end.holds })
   stop_by e b bs at (taken t) h (keep x) g q = let z : ◌≡◌ {A = ℕ} 0 1 = cc in absurd (omega arith)
   stop_by e b bs at (taken t) h (replace x) g q = let z : ◌≡◌ {A = ℕ} 0 1 = cc in absurd (omega arith)
   stop_by e b bs at (taken t) h (select x y) g q = let z : ◌≡◌ {A = ℕ} 0 1 = cc in absurd (omega arith)

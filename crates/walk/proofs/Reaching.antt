@@ -17,6 +17,7 @@ use Rattle.walk.specs.declared.marks.Marks.{Marks}
 use Rattle.walk.specs.declared.state.Walk.{Walk}
 use Rattle.expansion.specs.Events.{Event, begins, charge, charges, emit, emits, message, nest, replaced}
 use Rattle.expansion.specs.Walks.{Limits, missing, run, shown, stopped}
+use Rattle.walk.specs.Endings.{has_message}
 use Rattle.walk.specs.Frames.{Aim, Message, Reached, Stopped, Tells, changed, marked_replaced, marked_shows, worked}
 use Rattle.walk.proofs.Choosing.{len_of_value, shows_by_len}
 use Rattle.walk.proofs.Runs.{after, literals_append, literals_literal, shows_literal, spelled_literal, run_charges, shows_append, spelled_append, spelled_unshown}
@@ -25,7 +26,7 @@ pub or_none : (b : Bool) → b || false ≡ b
 or_none true = refl
 or_none false = refl
 
-tells_missing : (lent : MutBor (List ℕ)) (out : Output) (kind : Shape) (name : Span) (n : ℕ) (told : List ℕ) → Holds out lent told → Tells out lent (missing kind name n) told
+tells_missing : (lent : MutBor (List ℕ)) (out : Output) (kind : Shape) (name : Span) (n : ℕ) (told : List ℕ) → Holds out lent told → Tells (has_message (missing kind name n)) out lent told
 tells_missing lent out unset name n told h = h
 tells_missing lent out empty name n told h = h
 tells_missing lent out filled name n told h = h

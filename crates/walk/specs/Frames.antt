@@ -1,12 +1,11 @@
 -- What the code of the walk keeps: how far the events have come.
-use Rattle.std.specs.Prelude.{◌≡◌, ℕ, suc, ◌+◌, ◌-◌, ◌^◌, ◌<◌, ◌≤◌, ◌||◌, List, [], ◌∷◌, length, take, drop, Some, None, Ok, Err, Option, Result, ◌==◌, nat_lt}
+use Rattle.std.specs.Prelude.{◌≡◌, ℕ, suc, ◌+◌, ◌-◌, ◌^◌, ◌<◌, ◌≤◌, ◌||◌, Bool, true, false, List, [], ◌∷◌, length, take, drop, Some, None, Ok, Err, Option, Result, ◌==◌, nat_lt}
 use Rattle.std.specs.Borrow.{GName}
 use denote.Ref.{MutBor, at_last}
 use Rattle.budget.specs.declared.WorkBudget.{WorkBudget}
 use Rattle.names.specs.declared.PropertySyntax.{PropertySyntax}
 use Rattle.source.specs.Shapes.{Shape, unset, empty, shapes, values}
 use Rattle.references.specs.declared.error.PropertyError.{PropertyError}
-use Rattle.references.specs.declared.error.PropertyError.TheVariants as E
 use Rattle.items.specs.declared.action.Action.{Action}
 use Rattle.items.specs.declared.action.Action.TheVariants.{Keep, Dollar, Property, Nothing, Interpolate}
 use Rattle.items.specs.declared.action.FrameCompletion.{FrameCompletion}
@@ -16,6 +15,7 @@ use Rattle.items.specs.Items.{inner}
 use Rattle.items.specs.Looks.{Known, act_of}
 use Rattle.output.specs.declared.Output.{Output}
 use Rattle.output.specs.Outputs.{Holds}
+use Rattle.walk.specs.Endings.{has_message}
 use Rattle.walk.specs.declared.frame.ExpansionFrame.{ExpansionFrame}
 use Rattle.walk.specs.declared.marks.Marks.{Marks}
 use Rattle.walk.specs.declared.state.Walk.{Walk}
@@ -59,14 +59,10 @@ pub record Reached (means : List ℕ → Option (List ℕ)) (deep : ℕ) (aim : 
   pub holds : Holds now.out.now aim.lent (spelled (values means) pieces)
   pub few : length (literals pieces) + left < 2 ^ 64
 
--- the output holds the message of a refusal that has one
-abbrev pub Tells : Output → MutBor (List ℕ) → PropertyError → List ℕ → Type 0
-Tells out lent (E.Unresolved name) told = told ≡ []
-Tells out lent (E.InvalidName part) told = told ≡ []
-Tells out lent (E.RequiredButUnset name len) told = Holds out lent told
-Tells out lent (E.RequiredButEmpty name len) told = Holds out lent told
-Tells out lent (E.ExpansionDepthLimitExceeded depth limit) told = told ≡ []
-Tells out lent (E.ExpansionWorkLimitExceeded work limit) told = told ≡ []
+-- what is told of a refusal: the output holds it, if the refusal has a message; else it is nothing
+abbrev pub Tells : Bool → Output → MutBor (List ℕ) → List ℕ → Type 0
+Tells true out lent told = Holds out lent told
+Tells false out lent told = told ≡ []
 
 -- the walk stopped there
 pub record Stopped (aim : Aim) (now : Walk) (e : PropertyError) : Type 0 where
@@ -75,7 +71,7 @@ pub record Stopped (aim : Aim) (now : Walk) (e : PropertyError) : Type 0 where
   pub told : List ℕ
   pub is : aim.whole ≡ stopped now.work.total e told
   pub short : length told < 2 ^ 64
-  pub tells : Tells now.out.now aim.lent e told
+  pub tells : Tells (has_message e) now.out.now aim.lent told
   -- whatever was put out before
   pub old : List ℕ
   pub holds : Holds now.out.now aim.lent old

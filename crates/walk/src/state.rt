@@ -4,7 +4,7 @@ use output::Output;
 
 // What a walk is given, and leaves as it is.
 #[derive_where(Clone, Copy)]
-pub struct Given<'g, S> {
+pub(crate) struct Given<'g, S> {
     pub source: &'g S,
     pub text: &'g [u8],
     pub max_depth: usize,
@@ -13,7 +13,7 @@ pub struct Given<'g, S> {
 // What a walk changes: the work that was done, the marks, and the text that was put out.
 // The output is lent: where a struct owns one, the check loses what is then in the area.
 #[derive(Drop)]
-pub struct Walk<'w, 'a> {
+pub(crate) struct Walk<'w, 'a> {
     pub work: WorkBudget,
     pub marks: Marks,
     pub out: &'w mut Output<'a>,
