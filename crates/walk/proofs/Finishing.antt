@@ -21,7 +21,7 @@ use Rattle.expansion.specs.Walks.{Limits, Outcome, ended, run, stopped, walk}
 use Rattle.expansion.specs.Lengths.{Short}
 use Rattle.expansion.proofs.EndLaws.{run_emits}
 use Rattle.expansion.proofs.LengthLaws.{text_bounded}
-use Rattle.walk.specs.Frames.{Aim, Goes, Reached, Tells}
+use Rattle.walk.specs.Frames.{Aim, Bound, Goes, Reached, Tells}
 use Rattle.walk.specs.Endings.{Settles, answer_by, answer_fit, answer_kept, has_message, has_text, kept}
 use Rattle.walk.specs.Outcomes.{call_told, call_total, frames_needed, limits, told_by, total_left, unless_refused, walk_of}
 use Rattle.walk.proofs.Runs.{after, run_charges}
@@ -93,6 +93,11 @@ countable means s most t text short small = go (walk (shapes means) s most t tex
     go (ended u c ps) e = omega (arith, text_bounded means s most t u text c ps short e)
     go (stopped u x told) e = tt
 
+-- whether it ended or stopped, it is the walk of the aim
+pub bound_of : (means : List ℕ → Option (List ℕ)) (deep : ℕ) (aim : Aim) (now : Walk) (walked : Result (Unit {0}) PropertyError) → Goes means deep aim 0 [] now walked → Bound aim now.out.ghost_name now.work.limit
+bound_of means deep aim now (Ok x) r = r.bound
+bound_of means deep aim now (Err x) r = r.bound
+
 module _ (means : List ℕ → Option (List ℕ)) (deep : ℕ) (aim : Aim) (now : Walk) (out' : Output) where
   ended_as : (b : Bool) (ps : List Piece) → Countable (values means) (ended now.work.total b ps) → Holds now.out.now aim.lent (spelled (values means) ps) → Settles b now.out.now out' → EndOf (values means) aim.lent (ended now.work.total b ps) now.work (Ok tt) b out'
   ended_as true ps short h s =
@@ -111,15 +116,6 @@ module _ (means : List ℕ → Option (List ℕ)) (deep : ℕ) (aim : Aim) (now 
         area = area_fits (length aim.lent.now) [] unchanged (sym (zeros_all (length aim.lent.now))) ∙ ap (area_of (length aim.lent.now)) (none_fits (length aim.lent.now) unchanged);
         total = refl;
       }
-
-  -- the limit of its work is as it was, and its output is that which was lent
-  pub same_limit : (walked : Result (Unit {0}) PropertyError) → Goes means deep aim 0 [] now walked → now.work.limit ≡ aim.limit
-  same_limit (Ok x) r = r.limit
-  same_limit (Err x) r = r.limit
-
-  pub same_loan : (walked : Result (Unit {0}) PropertyError) → Goes means deep aim 0 [] now walked → now.out.ghost_name ≡ aim.loan
-  same_loan (Ok x) r = r.loan
-  same_loan (Err x) r = r.loan
 
   pub end_of : (walked : Result (Unit {0}) PropertyError) → Countable (values means) aim.whole → Goes means deep aim 0 [] now walked → Settles (has_text walked now.marks.changed) now.out.now out' → EndOf (values means) aim.lent aim.whole now.work walked now.marks.changed out'
   unfolding run
@@ -154,8 +150,7 @@ pub start : (means : List ℕ → Option (List ℕ)) (deep : ℕ) (s : PropertyS
 unfolding walk
 start means deep s lent text begun same hidden l h =
     record {
-      loan = refl;
-      limit = refl;
+      bound = record { loan = refl; limit = refl };
       pieces = [];
       goes = ap (λ b. run (shapes means) (limits deep begun.work.limit) begun.work.total b [] (events (shapes means) s text)) same;
       marked = hidden;

@@ -135,7 +135,7 @@ module _ {means : List ℕ → Option (List ℕ)} {deep : ℕ} {aim : Aim} {left
       let fine : has_message x ≡ false = subst (Fine (b ∷ bs) (item (shapes means) s i b bs).more) g (item_fine (shapes means) s i b bs) in
       let on = reach_charges _ _ t (spends ∙ ap (λ l. spent now.work (charges_at (shapes means) s i l)) at) h (reach_same (frame_item nested d s (shapes means) i b bs xs es at) r) in
       let end = reach_same (ap (λ a. acts nested d s a (frame nested d s (shapes means) (i + 1 + (item (shapes means) s i b bs).more) (drop (i + 1 + (item (shapes means) s i b bs).more) xs) 0 es)) g) on in
-      subst (Stopped aim (worked w now)) (sym is) (record { loan = end.loan; limit = end.limit; told = []; is = sym end.goes; short = omega arith; tells = subst (λ b. Tells b now.out.now aim.lent []) (sym fine) refl; old = spelled (values means) end.pieces; holds = end.holds })
+      subst (Stopped aim (worked w now)) (sym is) (record { bound = end.bound; told = []; is = sym end.goes; short = omega arith; tells = subst (λ b. Tells b now.out.now aim.lent []) (sym fine) refl; old = spelled (values means) end.pieces; holds = end.holds })
   stop_by e b bs at (taken t) h (keep x) g q = let z : ◌≡◌ {A = ℕ} 0 1 = cc in absurd (omega arith)
   stop_by e b bs at (taken t) h (replace x) g q = let z : ◌≡◌ {A = ℕ} 0 1 = cc in absurd (omega arith)
   stop_by e b bs at (taken t) h (select x y) g q = let z : ◌≡◌ {A = ℕ} 0 1 = cc in absurd (omega arith)

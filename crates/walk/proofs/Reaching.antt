@@ -38,7 +38,7 @@ module _ {means : List ℕ → Option (List ℕ)} {deep : ℕ} {aim : Aim} where
 
   -- fewer bytes are left
   pub reach_less : {more : ℕ} {es : List Event} {now : Walk} (left : ℕ) → left ≤ more → Reached means deep aim more es now → Reached means deep aim left es now
-  reach_less left h r = record { loan = r.loan; limit = r.limit; pieces = r.pieces; goes = r.goes; marked = r.marked; holds = r.holds; few = omega (arith, r.few) }
+  reach_less left h r = record { bound = r.bound; pieces = r.pieces; goes = r.goes; marked = r.marked; holds = r.holds; few = omega (arith, r.few) }
 
   module _ {now : Walk} {w : WorkBudget} {left : ℕ} (es : List Event) (ks : List ℕ) (t : ℕ) (e : w ≡ spent now.work ks) where
     -- charges are taken
@@ -46,8 +46,7 @@ module _ {means : List ℕ → Option (List ℕ)} {deep : ℕ} {aim : Aim} where
     reach_charges h r =
         let most : Limits = record { depth = deep; work = now.work.limit } in
         record {
-          loan = r.loan;
-          limit = ap (λ (v : WorkBudget). v.limit) e ∙ r.limit;
+          bound = record { loan = r.bound.loan; limit = ap (λ (v : WorkBudget). v.limit) e ∙ r.bound.limit };
           pieces = r.pieces;
           goes = ap (λ (v : WorkBudget). run (shapes means) (record { depth = deep; work = v.limit }) v.total now.marks.changed r.pieces es) e
               ∙ ap (λ x. run (shapes means) most (total_of x) now.marks.changed r.pieces es) h
@@ -63,8 +62,7 @@ module _ {means : List ℕ → Option (List ℕ)} {deep : ℕ} {aim : Aim} where
     stop_charges h r =
         let most : Limits = record { depth = deep; work = now.work.limit } in
         record {
-          loan = r.loan;
-          limit = ap (λ (v : WorkBudget). v.limit) e ∙ r.limit;
+          bound = record { loan = r.bound.loan; limit = ap (λ (v : WorkBudget). v.limit) e ∙ r.bound.limit };
           told = [];
           is = sym r.goes ∙ run_charges (shapes means) most ks now.work.total now.marks.changed r.pieces es ∙ ap (after (shapes means) most now.marks.changed r.pieces es) h
               ∙ ap (λ n. stopped n (ExpansionWorkLimitExceeded t now.work.limit) []) (sym (ap (λ (v : WorkBudget). v.total) e ∙ ap total_of h));
@@ -92,8 +90,7 @@ module _ {means : List ℕ → Option (List ℕ)} {deep : ℕ} {aim : Aim} where
     reach_emits {marks} {out} {text} qs room few c s q grows r =
         let most : Limits = record { depth = deep; work = now.work.limit } in
         record {
-          loan = r.loan;
-          limit = r.limit;
+          bound = r.bound;
           pieces = r.pieces ++ qs;
           goes = ap (λ b. run (shapes means) most now.work.total b (r.pieces ++ qs) es) c ∙ sym (run_emits (shapes means) most qs now.work.total now.marks.changed r.pieces es) ∙ r.goes;
           marked = s ∙ ap (λ b. b || shows (shapes means) qs) r.marked ∙ sym (shows_append (shapes means) r.pieces qs);
@@ -124,8 +121,7 @@ module _ {means : List ℕ → Option (List ℕ)} {deep : ℕ} {aim : Aim} where
     reach_replaced d e r =
         let most : Limits = record { depth = deep; work = now.work.limit } in
         record {
-          loan = r.loan;
-          limit = r.limit;
+          bound = r.bound;
           pieces = r.pieces;
           goes = ap (λ (m : Marks). run (shapes means) most now.work.total m.changed r.pieces es) e ∙ r.goes;
           marked = ap (λ (m : Marks). m.shows) e ∙ r.marked;
@@ -140,8 +136,7 @@ module _ {means : List ℕ → Option (List ℕ)} {deep : ℕ} {aim : Aim} where
     reach_begins c s clears r =
         let most : Limits = record { depth = deep; work = now.work.limit } in
         record {
-          loan = r.loan;
-          limit = r.limit;
+          bound = r.bound;
           pieces = [];
           goes = ap (λ b. run (shapes means) most now.work.total b [] es) c ∙ r.goes;
           marked = s;
@@ -153,11 +148,11 @@ module _ {means : List ℕ → Option (List ℕ)} {deep : ℕ} {aim : Aim} where
     pub reach_nest : (d : ℕ) → d ≤ deep → Reached means deep aim left (nest d ∷ es) now → Reached means deep aim left es now
     unfolding run
     reach_nest d h r =
-        record { loan = r.loan; limit = r.limit; pieces = r.pieces; goes = sym (cond-false _ _ _ (le-ltb deep d h)) ∙ r.goes; marked = r.marked; holds = r.holds; few = r.few }
+        record { bound = r.bound; pieces = r.pieces; goes = sym (cond-false _ _ _ (le-ltb deep d h)) ∙ r.goes; marked = r.marked; holds = r.holds; few = r.few }
 
     pub stop_nest : (d : ℕ) → deep < d → Reached means deep aim left (nest d ∷ es) now → Stopped aim now (ExpansionDepthLimitExceeded d deep)
     unfolding run
-    stop_nest d h r = record { loan = r.loan; limit = r.limit; told = []; is = sym r.goes ∙ cond-true _ _ _ (lt-ltb deep d h); short = omega arith; tells = refl; old = spelled (values means) r.pieces; holds = r.holds }
+    stop_nest d h r = record { bound = r.bound; told = []; is = sym r.goes ∙ cond-true _ _ _ (lt-ltb deep d h); short = omega arith; tells = refl; old = spelled (values means) r.pieces; holds = r.holds }
 
     -- the text as it stands is the message where a value shows; else what was put out
     pub message_source : {out : Output} (text : List ℕ) (n : ℕ) → length text < 2 ^ 64 → now.marks.shows ≡ true → n ≡ out.len
@@ -186,8 +181,7 @@ module _ {means : List ℕ → Option (List ℕ)} {deep : ℕ} {aim : Aim} where
   unfolding run
   stop_message {before} {now} kind name text n r m =
       record {
-        loan = m.loan ∙ r.loan;
-        limit = ap (λ (w : WorkBudget). w.limit) m.work ∙ r.limit;
+        bound = record { loan = m.loan ∙ r.bound.loan; limit = ap (λ (w : WorkBudget). w.limit) m.work ∙ r.bound.limit };
         told = shown (shapes means) text r.pieces;
         is = sym r.goes ∙ ap (λ k. stopped before.work.total (missing kind name k) (shown (shapes means) text r.pieces)) (sym m.len)
             ∙ ap (λ (w : WorkBudget). stopped w.total (missing kind name n) (shown (shapes means) text r.pieces)) (sym m.work);

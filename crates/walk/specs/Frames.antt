@@ -49,10 +49,14 @@ pub record Aim : Type 0 where
   pub limit : ℕ
   pub whole : Outcome
 
+-- a walk with this output and this limit is the one of the aim
+pub record Bound (aim : Aim) (out : GName) (most : ℕ) : Type 0 where
+  pub loan : out ≡ aim.loan
+  pub limit : most ≡ aim.limit
+
 -- A walk has come so far that the events es are left. They put out at most `left` bytes of the text.
 pub record Reached (means : List ℕ → Option (List ℕ)) (deep : ℕ) (aim : Aim) (left : ℕ) (es : List Event) (now : Walk) : Type 0 where
-  pub loan : now.out.ghost_name ≡ aim.loan
-  pub limit : now.work.limit ≡ aim.limit
+  pub bound : Bound aim now.out.ghost_name now.work.limit
   pub pieces : List Piece
   pub goes : run (shapes means) (record { depth = deep; work = now.work.limit }) now.work.total now.marks.changed pieces es ≡ aim.whole
   pub marked : now.marks.shows ≡ shows (shapes means) pieces
@@ -66,8 +70,7 @@ Tells false out lent told = told ≡ []
 
 -- the walk stopped there
 pub record Stopped (aim : Aim) (now : Walk) (e : PropertyError) : Type 0 where
-  pub loan : now.out.ghost_name ≡ aim.loan
-  pub limit : now.work.limit ≡ aim.limit
+  pub bound : Bound aim now.out.ghost_name now.work.limit
   pub told : List ℕ
   pub is : aim.whole ≡ stopped now.work.total e told
   pub short : length told < 2 ^ 64

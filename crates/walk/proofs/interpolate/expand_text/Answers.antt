@@ -1,6 +1,6 @@
 use Rattle.std.proofs.Common.{sym, ◌∙◌, rules}
 use Rattle.walk.specs.Outcomes.{limits}
-use Rattle.walk.proofs.Finishing.{countable, end_of, same_limit, same_loan, settles_back, start}
+use Rattle.walk.proofs.Finishing.{bound_of, countable, end_of, settles_back, start}
 use Rattle.walk.proofs.interpolate.expand_text.Goals as goal
 
 pub returns : goal.returns
@@ -13,7 +13,7 @@ returns g c =
     let now = c.walk_text-walked.new.walk in
     let goes = c.walk_text-walked.ensures _ first in
     let short = countable m c.args.syntax (limits deep w.limit) w.total text (g.S.PropertySource.laws.short c.args.given.now.source.now) c.requires.small in
-    let loan = same_loan m deep _ now c.settle.new.out c.walk_text-walked.result goes in
+    let bound = bound_of m deep _ now c.walk_text-walked.result goes in
     let back = settles_back _ now.out.now _ _ (search rules) c.settle.ensures in
     let end = end_of m deep _ now c.settle.new.out c.walk_text-walked.result short goes back in
     let laid = c.finish.ensures.holds _ _ end.holds ∙ end.area in
@@ -22,5 +22,5 @@ returns g c =
       answer = c.answer.ensures ∙ end.answers _ (c.finish.ensures.says _ _ end.holds);
       area = search rules;
       total = end.total;
-      limit = same_limit m deep _ now c.settle.new.out c.walk_text-walked.result goes;
+      limit = bound.limit;
     }
