@@ -1,14 +1,12 @@
 -- What an output holds after each step.
-use Rattle.std.proofs.Common.{◌≡◌, ℕ, ◌+◌, ◌-◌, ◌^◌, ◌<◌, ◌≤◌, min, List, [], ◌++◌, length, get_or, take, drop, set, replicate, Some, None, Option, sym, refl, ap, ◌∙◌, subst, inl, inr, append_assoc, arith, length-append, MutBor, rules}
+use Rattle.std.proofs.Common.{◌≡◌, ℕ, ◌+◌, ◌-◌, ◌^◌, ◌<◌, min, List, [], ◌++◌, length, get_or, take, drop, Some, None, Option, sym, refl, ap, ◌∙◌, subst, append_assoc, arith, length-append, MutBor, rules}
 use borrow.Rule.Slice.PartMut.{put_mid}
 use denote.Ref.{at_last}
-use Rattle.std.proofs.lemmas.List.{append-nil, places, same_lists, take_all, get_or-set_same, get_or-set_other}
-use Rattle.std.proofs.lemmas.Bool.{cases_eq, cases_lt, cond-true, le-leb}
-use Rattle.std.proofs.lemmas.Bool.Decides.{nat_tests}
+use Rattle.std.proofs.lemmas.List.{append-nil, places, same_lists, take_all}
 use Rattle.source.specs.Laying.{laid}
 use Rattle.source.specs.Shapes.{bytes_of}
 use Rattle.output.specs.declared.Output.{Output}
-use Rattle.output.specs.Outputs.{Grows, Holds, begun, closed, counted, fitted, laid_behind, put}
+use Rattle.output.specs.Outputs.{Grows, Holds, counted, laid_behind, put}
 
 none_of : (n : ℕ) → ◌≡◌ {A = List ℕ} [] (take n [])
 none_of n = sym (take_all n [] (omega arith))

@@ -22,7 +22,7 @@ use Rattle.expansion.specs.Lengths.{Short}
 use Rattle.expansion.proofs.EndLaws.{run_emits}
 use Rattle.expansion.proofs.LengthLaws.{text_bounded}
 use Rattle.walk.specs.Frames.{Aim, Bound, Goes, Reached, Tells}
-use Rattle.walk.specs.Endings.{Settles, answer_by, answer_fit, answer_kept, has_message, has_text, kept}
+use Rattle.walk.specs.Endings.{Settles, answer_by, answer_fit, answer_kept, has_message, has_text}
 use Rattle.walk.specs.Outcomes.{call_told, call_total, frames_needed, limits, told_by, total_left, unless_refused, walk_of}
 use Rattle.walk.proofs.Runs.{after, run_charges}
 use Rattle.walk.proofs.Starting.{begins_plain}

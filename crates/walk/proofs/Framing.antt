@@ -1,5 +1,5 @@
 -- A frame, item by item.
-use Rattle.std.proofs.Common.{◌≡◌, ℕ, zero, suc, ◌+◌, ◌-◌, ◌≤◌, false, List, [], ◌∷◌, ◌++◌, length, take, drop, Some, None, Ok, Err, Option, Result, sym, refl, ap, ◌∙◌, subst, ap₂, append_assoc, add-zero, arith, length-append, take-append-drop, Bor, MutBor}
+use Rattle.std.proofs.Common.{◌≡◌, ℕ, zero, suc, ◌+◌, ◌-◌, ◌≤◌, false, List, [], ◌∷◌, ◌++◌, length, take, drop, Some, None, Ok, Err, Option, Result, sym, refl, ap, ◌∙◌, subst, ap₂, append_assoc, add-zero, arith, length-append, take-append-drop, Bor}
 use Rattle.std.proofs.lemmas.List.{drop-drop, drop-take, length-take-le, take-take}
 use Rattle.budget.specs.declared.WorkBudget.{WorkBudget}
 use Rattle.budget.specs.Charges.{Work, taken, over, spent, works}
@@ -15,7 +15,6 @@ use Rattle.items.specs.declared.action.FrameCompletion.TheVariants.{Root, Append
 use Rattle.items.specs.declared.action.Step.{Step}
 use Rattle.items.specs.Items.{Act, keep, replace, select, require, refuse, Item, item}
 use Rattle.items.specs.Looks.{Ends, Looked, act_of, acted, charges_at, judged, look, looking, some_looked, step_of, with_next}
-use Rattle.output.specs.declared.Output.{Output}
 use Rattle.walk.specs.declared.state.Walk.{Walk}
 use Rattle.expansion.specs.Events.{Event, acts, charges, frame}
 use Rattle.expansion.specs.Walks.{run}
