@@ -1,6 +1,7 @@
 -- A frame, item by item.
 use Rattle.std.proofs.Common.{◌≡◌, ℕ, zero, suc, ◌+◌, ◌-◌, ◌≤◌, false, List, [], ◌∷◌, ◌++◌, length, take, drop, Some, None, Ok, Err, Option, Result, sym, refl, ap, ◌∙◌, subst, ap₂, append_assoc, add-zero, arith, length-append, take-append-drop, Bor}
-use Rattle.std.proofs.lemmas.List.{drop-drop, drop-take, length-take-le, take-take}
+use Rattle.std.proofs.Math.Seq.{drop-append_seam}
+use Rattle.std.proofs.lemmas.List.{drop_all, drop-drop, drop-take, length-take, length-take-le, take-take}
 use Rattle.budget.specs.declared.WorkBudget.{WorkBudget}
 use Rattle.budget.specs.Charges.{Work, taken, over, spent, works}
 use Rattle.names.specs.declared.PropertySyntax.{PropertySyntax}
@@ -43,10 +44,6 @@ module _ (nested : ℕ → List ℕ → List Event → List Event) (d : ℕ) (s 
       ap (λ l. frame nested d s sh i l 0 es) e
       ∙ ap (λ q. charges it.looks (acts nested d s it.act q)) (frame_skip it.more (i + 1) bs es ∙ ap (λ l. frame nested d s sh (i + 1 + it.more) l 0 es) rest)
 
-drop_front : (a b : List ℕ) → drop (length a) (a ++ b) ≡ b
-drop_front [] b = refl
-drop_front (x ∷ a) b = drop_front a b
-
 -- the text that was selected ends at the close
 pub tail_at : (w xs : List ℕ) (i n : ℕ) → Tail w (take n (drop i xs)) → i + n ≤ length xs → w ≡ drop (i + n - length w) (take (i + n) xs)
 tail_at w xs i n t h =
@@ -56,7 +53,7 @@ tail_at w xs i n t h =
     let l = ap length whole ∙ length-append front w in
     let size = length-take-le (i + n) xs h in
     let k : length front ≡ i + n - length w = omega arith in
-    let gone : drop (length front) (front ++ w) ≡ w = drop_front front w in
+    let gone : drop (length front) (front ++ w) ≡ w = drop-append_seam front w in
     sym gone ∙ ap (λ m. drop m (front ++ w)) k ∙ ap (drop (i + n - length w)) (sym whole)
 
 -- ## What a look found
@@ -156,14 +153,9 @@ pub record Lies (i : ℕ) (xs : List ℕ) (p : Step) : Type 0 where
   pub room : room_of p.action + (length xs - p.next) ≤ length xs - i
   pub fits : length (text_of p.action) ≤ p.next - 1
 
-no_text : (k : ℕ) (xs : List ℕ) → k ≤ length xs → [] ≡ drop k (take k xs)
-no_text zero xs h = refl
-no_text (suc k) [] h = refl
-no_text (suc k) (x ∷ xs) h = no_text k xs (omega arith)
-
 module _ (sh : List ℕ → Shape) (s : PropertySyntax) (w : WorkBudget) (i : ℕ) (xs : List ℕ) where
   nothing : (next : ℕ) → next ≤ length xs → [] ≡ drop (next - 1 - 0) (take (next - 1) xs)
-  nothing next h = let e : next - 1 ≡ next - 1 - 0 = omega arith in no_text (next - 1) xs (omega arith) ∙ ap (λ k. drop k (take (next - 1) xs)) e
+  nothing next h = sym (drop_all (next - 1 - 0) (take (next - 1) xs) (omega (arith, length-take (next - 1) xs)))
 
   module _ (next : ℕ) (a : Action) (f : Found sh s w i xs (record { action = a; next = next })) where
     abbrev it : Item

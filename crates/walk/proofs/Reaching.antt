@@ -1,5 +1,6 @@
 -- A walk goes on: what each event makes of what it has reached.
 use Rattle.std.proofs.Common.{◌≡◌, ℕ, ◌+◌, ◌^◌, ◌<◌, ◌≤◌, Bool, true, false, ◌||◌, List, [], ◌∷◌, ◌++◌, length, Some, Ok, Err, Option, Result, sym, refl, ap, ◌∙◌, subst, append-nil, arith, MutBor}
+use Rattle.std.proofs.Math.Bool.{or-false}
 use Rattle.std.proofs.lemmas.Bool.{cond-true, cond-false, le-ltb, lt-ltb}
 use Rattle.std.specs.Option.{option_map}
 use Rattle.budget.specs.declared.WorkBudget.{WorkBudget}
@@ -21,10 +22,6 @@ use Rattle.walk.specs.Endings.{has_message}
 use Rattle.walk.specs.Frames.{Aim, Message, Reached, Stopped, Tells, changed, marked_replaced, marked_shows, worked}
 use Rattle.walk.proofs.Choosing.{len_of_value, shows_by_len}
 use Rattle.walk.proofs.Runs.{after, literals_append, literals_literal, shows_literal, spelled_literal, run_charges, shows_append, spelled_append, spelled_unshown}
-
-pub or_none : (b : Bool) → b || false ≡ b
-or_none true = refl
-or_none false = refl
 
 tells_missing : (lent : MutBor (List ℕ)) (out : Output) (kind : Shape) (name : Span) (n : ℕ) (told : List ℕ) → Holds out lent told → Tells (has_message (missing kind name n)) out lent told
 tells_missing lent out unset name n told h = h
@@ -101,7 +98,7 @@ module _ {means : List ℕ → Option (List ℕ)} {deep : ℕ} {aim : Aim} where
     -- bytes are put out
     pub reach_literal : {out : Output} (text : List ℕ) → Grows now.out.now text out → Reached means deep aim (length text + left) (emits (literal text) es) now → Reached means deep aim left es (changed now.work now.marks out now)
     reach_literal text grows r =
-        let s : now.marks.shows ≡ now.marks.shows || shows (shapes means) (literal text) = sym (ap (λ b. now.marks.shows || b) (shows_literal (shapes means) text) ∙ or_none now.marks.shows) in
+        let s : now.marks.shows ≡ now.marks.shows || shows (shapes means) (literal text) = sym (ap (λ b. now.marks.shows || b) (shows_literal (shapes means) text) ∙ or-false now.marks.shows) in
         let l = ap length (literals_literal text) in
         reach_emits (literal text) (length text) (omega arith) refl s (spelled_literal (values means) text) grows r
 

@@ -1,5 +1,6 @@
 -- How `run` goes on over events, and what pieces amount to.
 use Rattle.std.proofs.Common.{◌≡◌, ℕ, ◌+◌, Bool, true, false, cond, ◌||◌, ltb, List, [], ◌∷◌, ◌++◌, length, Some, None, Option, sym, refl, ap, ◌∙◌, append_assoc, arith}
+use Rattle.std.proofs.Math.Bool.{or_assoc}
 use Rattle.budget.specs.Charges.{Work, taken, over, charged}
 use Rattle.budget.specs.Charges as Budget
 use Rattle.source.specs.Shapes.{Shape}
@@ -35,10 +36,6 @@ pub literals_append : (ps qs : List Piece) → length (literals (ps ++ qs)) ≡ 
 literals_append [] qs = omega arith
 literals_append (lit b ∷ ps) qs = omega (arith, literals_append ps qs)
 literals_append (val name ∷ ps) qs = literals_append ps qs
-
-or_assoc : (a b c : Bool) → (a || b) || c ≡ a || (b || c)
-or_assoc true b c = refl
-or_assoc false b c = refl
 
 pub shows_append : (sh : List ℕ → Shape) (ps qs : List Piece) → shows sh (ps ++ qs) ≡ shows sh ps || shows sh qs
 shows_append sh [] qs = refl
