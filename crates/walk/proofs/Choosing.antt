@@ -1,5 +1,5 @@
 -- Selected text: its events by how it is completed, and the values of properties.
-use Rattle.std.proofs.Common.{◌≡◌, ℕ, suc, ◌-◌, true, false, ◌||◌, ltb, List, [], ◌∷◌, length, Some, None, Option, sym, refl, ap, arith}
+use Rattle.std.proofs.Common.{◌≡◌, ℕ, suc, ◌-◌, Bool, true, false, ◌||◌, ltb, List, [], ◌∷◌, length, Some, None, Option, sym, ap, arith}
 use Rattle.std.specs.Option.{option_map}
 use Rattle.std.proofs.lemmas.Bool.{lt-ltb}
 use Rattle.names.specs.declared.PropertySyntax.{PropertySyntax}
@@ -13,30 +13,19 @@ use Rattle.expansion.specs.Events.{Event, acts, charge, explained, message, sele
 use Rattle.walk.specs.Frames.{Proper, open_events, put_events}
 
 module _ (nested : ℕ → List ℕ → List Event → List Event) (d : ℕ) (s : PropertySyntax) (close : ℕ) (w : List ℕ) (es : List Event) where
-  pub acts_open : (completion : FrameCompletion) → Proper completion → true ≡ expands s w → acts nested d s (chosen close w completion) es ≡ charge (length w) ∷ open_events nested d (close - length w) w completion es
-  acts_open Root p e = absurd p
-  acts_open Append p e = ap (λ b. charge (length w) ∷ selected nested d s b (close - length w) w es) (sym e)
-  acts_open (RequiredButUnset name) p e = ap (λ b. charge (length w) ∷ explained nested d s b (close - length w) w (message unset name w ∷ [])) (sym e)
-  acts_open (RequiredButEmpty name) p e = ap (λ b. charge (length w) ∷ explained nested d s b (close - length w) w (message empty name w ∷ [])) (sym e)
+  -- once it is charged, by whether it has to be walked
+  abbrev pub behind : Bool → FrameCompletion → List Event
+  behind true completion = open_events nested d (close - length w) w completion es
+  behind false completion = put_events d w completion es
 
-  pub acts_put : (completion : FrameCompletion) → Proper completion → false ≡ expands s w → acts nested d s (chosen close w completion) es ≡ charge (length w) ∷ put_events d w completion es
-  acts_put Root p e = absurd p
-  acts_put Append p e = ap (λ b. charge (length w) ∷ selected nested d s b (close - length w) w es) (sym e)
-  acts_put (RequiredButUnset name) p e = ap (λ b. charge (length w) ∷ explained nested d s b (close - length w) w (message unset name w ∷ [])) (sym e)
-  acts_put (RequiredButEmpty name) p e = ap (λ b. charge (length w) ∷ explained nested d s b (close - length w) w (message empty name w ∷ [])) (sym e)
-
-  -- in either case it is charged first
-  abbrev pub behind : FrameCompletion → List Event
-  behind Root = []
-  behind Append = selected nested d s (expands s w) (close - length w) w es
-  behind (RequiredButUnset name) = explained nested d s (expands s w) (close - length w) w (message unset name w ∷ [])
-  behind (RequiredButEmpty name) = explained nested d s (expands s w) (close - length w) w (message empty name w ∷ [])
-
-  pub acts_charge : (completion : FrameCompletion) → Proper completion → acts nested d s (chosen close w completion) es ≡ charge (length w) ∷ behind completion
-  acts_charge Root p = absurd p
-  acts_charge Append p = refl
-  acts_charge (RequiredButUnset name) p = refl
-  acts_charge (RequiredButEmpty name) p = refl
+  pub acts_chosen : (b : Bool) (completion : FrameCompletion) → Proper completion → b ≡ expands s w → acts nested d s (chosen close w completion) es ≡ charge (length w) ∷ behind b completion
+  acts_chosen b Root p e = absurd p
+  acts_chosen true Append p e = ap (λ b. charge (length w) ∷ selected nested d s b (close - length w) w es) (sym e)
+  acts_chosen false Append p e = ap (λ b. charge (length w) ∷ selected nested d s b (close - length w) w es) (sym e)
+  acts_chosen true (RequiredButUnset name) p e = ap (λ b. charge (length w) ∷ explained nested d s b (close - length w) w (message unset name w ∷ [])) (sym e)
+  acts_chosen false (RequiredButUnset name) p e = ap (λ b. charge (length w) ∷ explained nested d s b (close - length w) w (message unset name w ∷ [])) (sym e)
+  acts_chosen true (RequiredButEmpty name) p e = ap (λ b. charge (length w) ∷ explained nested d s b (close - length w) w (message empty name w ∷ [])) (sym e)
+  acts_chosen false (RequiredButEmpty name) p e = ap (λ b. charge (length w) ∷ explained nested d s b (close - length w) w (message empty name w ∷ [])) (sym e)
 
 -- a value shows where its length is not 0
 pub shows_by_len : (len : ℕ) (o : Option (List ℕ)) → Some len ≡ option_map length o → ltb 0 len ≡ is_filled (shape o) || false

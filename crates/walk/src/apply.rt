@@ -6,7 +6,7 @@ ghost use Rattle.expansion.specs.Events.{Event, acts};
 ghost use Rattle.walk.specs.Frames.{Applies, Askable, Ends, Opens, OpensBy, Passes, Proper, Selects, TellsMessage, begun_by, completed, open_events, part, put_events};
 
 use crate::frame::ExpansionFrame;
-use crate::state::{Given, Walk};
+use crate::state::{Given, Site, Walk};
 use items::action::{Action, FrameCompletion};
 use names::PropertySyntax;
 use references::error::PropertyError;
@@ -90,14 +90,6 @@ fn selected_syntax(syntax: PropertySyntax) -> PropertySyntax
         PropertySyntax::Braced | PropertySyntax::BracedOrBare => PropertySyntax::Braced,
         PropertySyntax::DockerCompose => PropertySyntax::DockerCompose,
     }
-}
-
-// Where an action stands: in a frame of this depth and syntax, and `close` is the last byte that was read.
-#[derive(Clone, Copy)]
-pub(crate) struct Site {
-    pub(crate) close: usize,
-    pub(crate) depth: usize,
-    pub(crate) syntax: PropertySyntax,
 }
 
 // Text that was selected and has to be walked: the frame of it, which ends at the close.

@@ -1,9 +1,9 @@
 ghost use Rattle.std.specs.Prelude.{◌≡◌, ◌≤◌, length};
 ghost use Rattle.walk.specs.Frames.{Frames, Nested, moved};
 
-use crate::apply::{Site, apply_action};
+use crate::apply::apply_action;
 use crate::frame::ExpansionFrame;
-use crate::state::{Given, Walk};
+use crate::state::{Given, Site, Walk};
 use items::look::look_at;
 use references::error::PropertyError;
 use source::source::PropertySource;

@@ -1,6 +1,6 @@
-use Rattle.std.proofs.Common.{length}
+use Rattle.std.proofs.Common.{true, false, length, refl}
 use Rattle.std.proofs.lemmas.Result.{err_from_is_err_and}
-use Rattle.walk.proofs.Choosing.{acts_charge, acts_open, acts_put}
+use Rattle.walk.proofs.Choosing.{acts_chosen}
 use Rattle.walk.proofs.Reaching.{reach_charge, reach_same, stop_charge}
 use Rattle.walk.proofs.apply.select_text.Goals as goal
 
@@ -12,7 +12,7 @@ returns-in_err-charge c =
     let p = err_from_is_err_and c.from_residual.result c.from_residual.ensures.1 in
     rw (p.1, p.2) (record {
       opens = tt;
-      goes = λ means nested aim left es r. stop_charge (length text) e.work _ e.says (reach_same (acts_charge nested at.depth at.syntax at.close text es c.args.completion c.requires.1) r);
+      goes = λ means nested aim left es r. stop_charge (length text) e.work _ e.says (reach_same (acts_chosen nested at.depth at.syntax at.close text es _ c.args.completion c.requires.1 refl) r);
     })
 
 pub returns-then-needs_expansion : goal.returns-then-needs_expansion
@@ -23,7 +23,7 @@ returns-then-needs_expansion c =
     record {
       opens = c.open_selected.ensures.opens;
       goes = λ means nested aim left es r.
-          c.open_selected.ensures.goes means nested aim left es (reach_charge (length text) e.work e.says (reach_same (acts_open nested at.depth at.syntax at.close text es c.args.completion c.requires.1 c.if-needs_expansion.ensures) r));
+          c.open_selected.ensures.goes means nested aim left es (reach_charge (length text) e.work e.says (reach_same (acts_chosen nested at.depth at.syntax at.close text es true c.args.completion c.requires.1 c.if-needs_expansion.ensures) r));
     }
 
 pub returns-in_err-put_selected : goal.returns-in_err-put_selected
@@ -35,7 +35,7 @@ returns-in_err-put_selected c =
     rw (p.1, p.2) (record {
       opens = tt;
       goes = λ means nested aim left es r.
-          c.in_err-put_selected.ensures means c.args.max_depth aim left es (reach_charge (length text) e.work e.says (reach_same (acts_put nested at.depth at.syntax at.close text es c.args.completion c.requires.1 c.if-needs_expansion.ensures) r));
+          c.in_err-put_selected.ensures means c.args.max_depth aim left es (reach_charge (length text) e.work e.says (reach_same (acts_chosen nested at.depth at.syntax at.close text es false c.args.completion c.requires.1 c.if-needs_expansion.ensures) r));
     })
 
 pub returns : goal.returns
@@ -46,5 +46,5 @@ returns c =
     record {
       opens = tt;
       goes = λ means nested aim left es r.
-          c.in_ok-put_selected.ensures means c.args.max_depth aim left es (reach_charge (length text) e.work e.says (reach_same (acts_put nested at.depth at.syntax at.close text es c.args.completion c.requires.1 c.if-needs_expansion.ensures) r));
+          c.in_ok-put_selected.ensures means c.args.max_depth aim left es (reach_charge (length text) e.work e.says (reach_same (acts_chosen nested at.depth at.syntax at.close text es false c.args.completion c.requires.1 c.if-needs_expansion.ensures) r));
     }
