@@ -38,7 +38,7 @@ fn message_len(text: &[u8], walk: &mut Walk<'_, '_>) -> usize
 }
 
 // The end of a text that was selected: the walk goes on, or that was the message of a required property.
-pub(crate) fn complete_frame(
+fn complete_frame(
     text: &[u8],
     completion: FrameCompletion,
     walk: &mut Walk<'_, '_>,
