@@ -1,26 +1,36 @@
-ghost use Rattle.std.specs.Prelude.{◌≡◌, ℕ, true};
+ghost use Rattle.std.specs.Prelude.{◌≡◌};
+ghost use Rattle.source.specs.declared.error.SourceError.TheVariants.{BadBlock};
 ghost use Rattle.tables.specs.BlockLaws.{block_format_laws};
 ghost use Rattle.tables.specs.Blocks.{block_bad, block_format, block_verdict};
-ghost use Rattle.tables.specs.Formats.{table_laws};
-ghost use Rattle.tables.specs.Meaning.{Checked, Falls, Made};
-ghost use Rattle.tables.specs.Rows.{all_sound, meaning, rows, usable};
+ghost use Rattle.tables.specs.Meaning.{Checked, Falls};
+ghost use Rattle.tables.specs.Rows.{rows};
 
-use crate::rows::{RowFormat, check_table, find_value, usable_bytes};
+use crate::rows::{BadRow, RowFormat};
 use crate::scan::{find_byte, front, is_zero};
+use crate::table::{Table, check_table};
 use source::error::SourceError;
-use source::fetch::lay_bytes;
-use source::source::{NAME_MAX, PropertySource, VALUE_MAX};
+use source::source::{NAME_MAX, VALUE_MAX};
 use text::is_utf8;
 
 // The most bytes that a block may have.
 pub const BLOCK_MAX: usize = 16384;
 
-struct Entries;
+// The format of a block.
+#[derive(Clone, Copy)]
+pub struct Entries;
 
 impl RowFormat for Entries {
     ghost format = { block_format };
 
     ghost laws = { block_format_laws };
+
+    ghost MOST = { 16384 };
+
+    const MOST: usize = BLOCK_MAX;
+
+    ghost refusal = { λ bad. BadBlock bad.start };
+
+    ghost top = { 16384 };
 
     fn next_row(rest: &[u8]) -> Option<&[u8]> {
         if is_zero(rest) {
@@ -52,7 +62,18 @@ impl RowFormat for Entries {
         let name = find_byte(row, b'=');
         &row[name + 1..row.len() - 1]
     }
+
+    fn refusal(bad: BadRow) -> SourceError {
+        SourceError::BadBlock(bad.start)
+    }
+
+    fn too_long() -> SourceError {
+        SourceError::BadBlock(BLOCK_MAX)
+    }
 }
+
+// A block: entries `name=value`, each with a zero byte at its end, and no name twice.
+pub type Block<'a> = Table<'a, Entries>;
 
 // Whether the bytes are a lawful block; else the start of its first bad entry, or 16384 where it is too long.
 pub fn check_block(bytes: &[u8]) -> Result<(), SourceError>
@@ -60,46 +81,5 @@ pub fn check_block(bytes: &[u8]) -> Result<(), SourceError>
     ensures rows { Falls block_format bytes.now (rows block_format bytes.now) }
     ensures tells { Checked block_format 16384 16384 bytes.now (block_bad bytes.now) }
 {
-    match check_table::<Entries>(bytes, BLOCK_MAX, BLOCK_MAX) {
-        Some(bad) => Err(SourceError::BadBlock(bad.start)),
-        None => Ok(()),
-    }
-}
-
-// A block: entries `name=value`, each with a zero byte at its end, and no name twice.
-#[derive(Clone, Copy)]
-pub struct Block<'a> {
-    bytes: &'a [u8],
-    ghost sound: { all_sound block_format (rows block_format bytes.now) ≡ true },
-}
-
-impl<'a> Block<'a> {
-    // The block of these bytes; one with nothing set where they are unlawful.
-    pub fn new(bytes: &'a [u8]) -> Self
-        ensures value { result.bytes.now ≡ usable (block_bad bytes.now) bytes.now }
-        ensures means { Made block_format 16384 bytes.now (meaning block_format result.bytes.now) }
-    {
-        Block {
-            bytes: usable_bytes::<Entries>(bytes, BLOCK_MAX, BLOCK_MAX),
-        }
-    }
-}
-
-impl<'a> PropertySource for Block<'a> {
-    ghost means = { λ s n. meaning block_format s.bytes.now n };
-
-    ghost laws = { table_laws block_format block_format_laws (λ s. s.bytes.now) (λ s. s.sound) };
-
-    fn value_len(&self, name: &[u8]) -> Option<usize> {
-        match find_value::<Entries>(self.bytes, name) {
-            Some(value) => Some(value.len()),
-            None => None,
-        }
-    }
-
-    fn lay_value(&self, name: &[u8], area: &mut [u8]) {
-        if let Some(value) = find_value::<Entries>(self.bytes, name) {
-            lay_bytes(value, area);
-        }
-    }
+    check_table::<Entries>(bytes)
 }

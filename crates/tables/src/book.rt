@@ -1,15 +1,15 @@
-ghost use Rattle.std.specs.Prelude.{◌≡◌, ℕ, true};
+ghost use Rattle.std.specs.Prelude.{◌≡◌};
+ghost use Rattle.source.specs.declared.error.SourceError.TheVariants.{BadBook};
 ghost use Rattle.tables.specs.BookLaws.{book_format_laws};
 ghost use Rattle.tables.specs.Books.{book_bad, book_format, book_verdict};
-ghost use Rattle.tables.specs.Formats.{table_laws};
-ghost use Rattle.tables.specs.Meaning.{Checked, Falls, Made};
-ghost use Rattle.tables.specs.Rows.{all_sound, meaning, rows, usable};
+ghost use Rattle.tables.specs.Meaning.{Checked, Falls};
+ghost use Rattle.tables.specs.Rows.{rows};
 
-use crate::rows::{RowFormat, check_table, find_value, usable_bytes};
+use crate::rows::{BadRow, RowFormat};
 use crate::scan::{front, is_zero};
+use crate::table::{Table, check_table};
 use source::error::SourceError;
-use source::fetch::lay_bytes;
-use source::source::{NAME_MAX, PropertySource};
+use source::source::NAME_MAX;
 use text::is_utf8;
 
 // The bytes of a record.
@@ -33,12 +33,22 @@ const VALUE_LEN_AT: usize = 64;
 // Where the value starts in a record, behind its length.
 const VALUE_AT: usize = 65;
 
-struct Records;
+// The format of a book.
+#[derive(Clone, Copy)]
+pub struct Records;
 
 impl RowFormat for Records {
     ghost format = { book_format };
 
     ghost laws = { book_format_laws };
+
+    ghost MOST = { 65536 };
+
+    const MOST: usize = BOOK_MAX;
+
+    ghost refusal = { λ bad. BadBook bad.index };
+
+    ghost top = { 256 };
 
     fn next_row(rest: &[u8]) -> Option<&[u8]> {
         if rest.is_empty() {
@@ -71,7 +81,18 @@ impl RowFormat for Records {
         let len = row[VALUE_LEN_AT] as usize;
         &row[VALUE_AT..VALUE_AT + len]
     }
+
+    fn refusal(bad: BadRow) -> SourceError {
+        SourceError::BadBook(bad.index)
+    }
+
+    fn too_long() -> SourceError {
+        SourceError::BadBook(RECORDS_MAX)
+    }
 }
+
+// A book: at most 256 records, each a name and a value, and no name twice.
+pub type Book<'a> = Table<'a, Records>;
 
 // Whether the bytes are a lawful book; else the number of its first bad record, or 256 where it is too long.
 pub fn check_book(bytes: &[u8]) -> Result<(), SourceError>
@@ -79,46 +100,5 @@ pub fn check_book(bytes: &[u8]) -> Result<(), SourceError>
     ensures rows { Falls book_format bytes.now (rows book_format bytes.now) }
     ensures tells { Checked book_format 65536 256 bytes.now (book_bad bytes.now) }
 {
-    match check_table::<Records>(bytes, BOOK_MAX, RECORDS_MAX) {
-        Some(bad) => Err(SourceError::BadBook(bad.index)),
-        None => Ok(()),
-    }
-}
-
-// A book: at most 256 records, each a name and a value, and no name twice.
-#[derive(Clone, Copy)]
-pub struct Book<'a> {
-    bytes: &'a [u8],
-    ghost sound: { all_sound book_format (rows book_format bytes.now) ≡ true },
-}
-
-impl<'a> Book<'a> {
-    // The book of these bytes; one with nothing set where they are unlawful.
-    pub fn new(bytes: &'a [u8]) -> Self
-        ensures value { result.bytes.now ≡ usable (book_bad bytes.now) bytes.now }
-        ensures means { Made book_format 65536 bytes.now (meaning book_format result.bytes.now) }
-    {
-        Book {
-            bytes: usable_bytes::<Records>(bytes, BOOK_MAX, RECORDS_MAX),
-        }
-    }
-}
-
-impl<'a> PropertySource for Book<'a> {
-    ghost means = { λ s n. meaning book_format s.bytes.now n };
-
-    ghost laws = { table_laws book_format book_format_laws (λ s. s.bytes.now) (λ s. s.sound) };
-
-    fn value_len(&self, name: &[u8]) -> Option<usize> {
-        match find_value::<Records>(self.bytes, name) {
-            Some(value) => Some(value.len()),
-            None => None,
-        }
-    }
-
-    fn lay_value(&self, name: &[u8], area: &mut [u8]) {
-        if let Some(value) = find_value::<Records>(self.bytes, name) {
-            lay_bytes(value, area);
-        }
-    }
+    check_table::<Records>(bytes)
 }

@@ -5,3 +5,4 @@ pub mod block;
 pub mod book;
 mod rows;
 mod scan;
+pub mod table;

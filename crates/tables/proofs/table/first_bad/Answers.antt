@@ -1,9 +1,9 @@
 use Rattle.std.proofs.Common.{arith, length-drop}
 use Rattle.tables.proofs.Checking.{behind_sound, check_bad, check_front, check_more, check_none}
-use Rattle.tables.proofs.rows.first_bad.Goals as goal
+use Rattle.tables.proofs.table.first_bad.Goals as goal
 
-pub is_fresh-requires : goal.is_fresh-requires
-is_fresh-requires g c = behind_sound g.F.RowFormat.laws c.loop-row.invariant
+pub invariant_of-before : goal.invariant_of-before
+invariant_of-before g c = record { sound = behind_sound g.F.RowFormat.laws c.loop-row.invariant }
 
 pub returns-then-not-is_fresh : goal.returns-then-not-is_fresh
 returns-then-not-is_fresh g c = check_bad g.F.RowFormat.laws c.loop-row.invariant c.in-Some.ensures c.if-not-is_fresh.ensures
