@@ -27,7 +27,7 @@ pub trait PropertySource {
 }
 
 // The source in which everything is unset.
-#[derive(Clone, Copy)]
+#[derive(Clone, Copy, PartialEq, Eq, Debug, Default)]
 pub struct Empty;
 
 impl PropertySource for Empty {

@@ -2,3 +2,4 @@ mod Cutting
 mod Looking
 mod Checking
 mod Telling
+mod Placing

@@ -1,5 +1,5 @@
 -- That the format of a book is one of a table.
-use Rattle.std.specs.Prelude.{◌≡◌, ℕ, zero, suc, ◌+◌, ◌-◌, ◌<◌, ◌≤◌, min, Bool, true, false, cond, List, [], ◌∷◌, ◌++◌, length, take, drop, Some, None, Option, slice_index, slice_index_or, refl}
+use Rattle.std.specs.Prelude.{◌≡◌, ℕ, zero, suc, ◌+◌, ◌-◌, ◌<◌, ◌≤◌, min, Bool, true, false, cond, List, [], ◌∷◌, ◌++◌, length, take, drop, Some, None, Option, slice_index, refl}
 use Rattle.std.proofs.Common.{sym, ap, ◌∙◌, arith, length-append}
 use Rattle.std.proofs.lemmas.List.{length-take, take_at}
 use Rattle.std.proofs.lemmas.Bool.{and_parts, cond-false, eqb-true, eqb-false, leb-true, ne_eqb}
@@ -10,8 +10,8 @@ use Rattle.tables.specs.Formats.{FormatLaws, Front}
 pub record SoundRecord (r : List ℕ) : Type 0 where
   pub whole : length r ≡ 256
   pub some : 1 ≤ slice_index r 0
-  pub name : slice_index_or r 0 0 ≤ 63
-  pub value : slice_index_or r 64 0 ≤ 191
+  pub name : slice_index r 0 ≤ 63
+  pub value : slice_index r 64 ≤ 191
 
 pub sound_record : (r : List ℕ) → record_sound r ≡ true → SoundRecord r
 sound_record r e =

@@ -1,6 +1,6 @@
 -- A book: records of 256 bytes, each a name and a value.
 use Rattle.std.specs.Prelude.{ℕ, ◌+◌, Bool, true, cond, ◌&&◌, List, [], ◌∷◌, length, take, Some, None, Option, Result, ◌==◌, nat_le, slice_index}
-use Rattle.std.specs.List.{between}
+use Rattle.std.specs.List.{between, list_all}
 use Rattle.source.specs.declared.error.SourceError.{SourceError}
 use Rattle.source.specs.declared.error.SourceError.TheVariants.{BadBook}
 use Rattle.text.specs.Texts.{well_formed}
@@ -20,8 +20,7 @@ abbrev pub record_value : List ℕ → List ℕ
 record_value r = between 65 (65 + slice_index r 64) r
 
 abbrev pub all_zero : List ℕ → Bool
-all_zero [] = true
-all_zero (x ∷ xs) = x == 0 && all_zero xs
+all_zero bs = list_all (λ b. b == 0) bs
 
 -- 256 bytes, with a name of 1 to 63 bytes and a value of at most 191, both well-formed UTF-8; the unused bytes are zero.
 abbrev pub record_sound : List ℕ → Bool

@@ -6,7 +6,7 @@ ghost use Rattle.tables.specs.Meaning.{Checked, Falls};
 ghost use Rattle.tables.specs.Rows.{rows};
 
 use crate::rows::{BadRow, RowFormat};
-use crate::scan::{find_byte, front, is_zero};
+use crate::scan::{find_byte, is_zero};
 use crate::table::{Table, check_table};
 use source::error::SourceError;
 use source::source::{NAME_MAX, VALUE_MAX};
@@ -36,13 +36,13 @@ impl RowFormat for Entries {
         if is_zero(rest) {
             return None;
         }
-        let end = find_byte(rest, 0);
-        Some(front(rest, end + 1))
+        Some(find_byte(rest, 0).map_or(rest, |end| &rest[..end + 1]))
     }
 
     fn is_sound(row: &[u8]) -> bool {
-        let name = find_byte(row, b'=');
-        let end = find_byte(row, 0);
+        let (Some(name), Some(end)) = (find_byte(row, b'='), find_byte(row, 0)) else {
+            return false;
+        };
         if name < 1
             || name > NAME_MAX
             || name >= end
@@ -55,11 +55,12 @@ impl RowFormat for Entries {
     }
 
     fn name_of(row: &[u8]) -> &[u8] {
-        &row[..find_byte(row, b'=')]
+        let name = find_byte(row, b'=').unwrap();
+        &row[..name]
     }
 
     fn value_of(row: &[u8]) -> &[u8] {
-        let name = find_byte(row, b'=');
+        let name = find_byte(row, b'=').unwrap();
         &row[name + 1..row.len() - 1]
     }
 

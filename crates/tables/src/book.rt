@@ -6,7 +6,7 @@ ghost use Rattle.tables.specs.Meaning.{Checked, Falls};
 ghost use Rattle.tables.specs.Rows.{rows};
 
 use crate::rows::{BadRow, RowFormat};
-use crate::scan::{front, is_zero};
+use crate::scan::is_zero;
 use crate::table::{Table, check_table};
 use source::error::SourceError;
 use source::source::NAME_MAX;
@@ -51,10 +51,7 @@ impl RowFormat for Records {
     ghost top = { 256 };
 
     fn next_row(rest: &[u8]) -> Option<&[u8]> {
-        if rest.is_empty() {
-            return None;
-        }
-        Some(front(rest, RECORD_LEN))
+        rest.chunks(RECORD_LEN).next()
     }
 
     fn is_sound(row: &[u8]) -> bool {

@@ -1,4 +1,4 @@
-ghost use Rattle.std.specs.Prelude.{◌≡◌, ◌≤◌, length, take};
+ghost use Rattle.std.specs.Prelude.{◌≡◌, ◌<◌, length, MatchOption};
 ghost use Rattle.tables.specs.Blocks.{place};
 ghost use Rattle.tables.specs.Books.{all_zero};
 
@@ -6,30 +6,12 @@ ghost use Rattle.tables.specs.Books.{all_zero};
 pub(crate) fn is_zero(bytes: &[u8]) -> bool
     ensures { result ≡ all_zero bytes.now }
 {
-    for x in bytes {
-        if *x != 0 {
-            return false;
-        }
-    }
-    true
+    bytes.iter().all(|b| *b == 0)
 }
 
-// Where a byte first stands; the length where it does not.
-pub(crate) fn find_byte(bytes: &[u8], byte: u8) -> usize
-    ensures value { result ≡ place byte bytes.now }
-    ensures within { result ≤ length bytes.now }
+// Where a byte first stands.
+pub(crate) fn find_byte(bytes: &[u8], byte: u8) -> Option<usize>
+    ensures { MatchOption result (place byte bytes.now ≡ length bytes.now) (λ i. (i ≡ place byte bytes.now) × (i < length bytes.now)) }
 {
-    for (i, &x) in bytes.iter().enumerate() {
-        if x == byte {
-            return i;
-        }
-    }
-    bytes.len()
-}
-
-// The first `n` bytes; all where there are fewer.
-pub(crate) fn front(bytes: &[u8], n: usize) -> &[u8]
-    ensures { result.now ≡ take n bytes.now }
-{
-    &bytes[..n.min(bytes.len())]
+    bytes.iter().position(|b| *b == byte)
 }
