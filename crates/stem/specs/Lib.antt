@@ -1,1 +1,2 @@
 pub mod Stems
+pub mod StemLaws
