@@ -3,7 +3,7 @@
 
 ghost use Rattle.std.specs.Prelude.{◌≡◌, ℕ, List, ◌++◌, None, if◌then◌else◌};
 ghost use Rattle.std.specs.Bool.{then_some};
-ghost use Rattle.std.specs.Option.{option_map};
+ghost use Rattle.std.specs.Option.{option_copied};
 ghost use Rattle.stem.specs.StemLaws.{stem_laws};
 ghost use Rattle.stem.specs.Stems.{name_below, stem_lawful, stem_verdict, under};
 
@@ -36,9 +36,9 @@ pub struct Stem<'a, S> {
 impl<'a, S: PropertySource> Stem<'a, S> {
     // The layer over `below`; a source with nothing set where the stem is unlawful.
     pub fn new(stem: &'a [u8], below: S) -> Self
-        ensures value { option_map (λ x. x.now) result.stem ≡ then_some (stem_lawful stem.now) stem.now }
+        ensures value { option_copied result.stem ≡ then_some (stem_lawful stem.now) stem.now }
         ensures below { result.below ≡ below }
-        ensures means { (name : List ℕ) → under (option_map (λ x. x.now) result.stem) (S.PropertySource.means result.below) name ≡ (if stem_lawful stem.now then S.PropertySource.means below (stem.now ++ name) else None) }
+        ensures means { (name : List ℕ) → under (option_copied result.stem) (S.PropertySource.means result.below) name ≡ (if stem_lawful stem.now then S.PropertySource.means below (stem.now ++ name) else None) }
     {
         let stem = check_stem(stem).is_ok().then_some(stem);
         Stem { stem, below }
@@ -46,7 +46,7 @@ impl<'a, S: PropertySource> Stem<'a, S> {
 
     // Stem and name joined; None where the name is unset whatever stands below.
     fn join<'b>(&self, name: &[u8], whole: &'b mut [u8; NAME_MAX]) -> Option<&'b [u8]>
-        ensures { option_map (λ x. x.now) result ≡ name_below (option_map (λ x. x.now) self.now.stem) name.now }
+        ensures { option_copied result ≡ name_below (option_copied self.now.stem) name.now }
     {
         let stem = self.stem?;
         let a = stem.len();
@@ -61,9 +61,9 @@ impl<'a, S: PropertySource> Stem<'a, S> {
 }
 
 impl<'a, S: PropertySource> PropertySource for Stem<'a, S> {
-    ghost means = { λ s n. under (option_map (λ x. x.now) s.stem) (S.PropertySource.means s.below) n };
+    ghost means = { λ s n. under (option_copied s.stem) (S.PropertySource.means s.below) n };
 
-    ghost laws = { stem_laws S.PropertySource.laws (λ s. option_map (λ x. x.now) s.stem) (λ s. s.below) };
+    ghost laws = { stem_laws S.PropertySource.laws (λ s. option_copied s.stem) (λ s. s.below) };
 
     fn value_len(&self, name: &[u8]) -> Option<usize> {
         let mut whole = [0u8; NAME_MAX];

@@ -1,5 +1,5 @@
 ghost use Rattle.std.specs.Prelude.{◌≡◌, ℕ, true};
-ghost use Rattle.std.specs.Option.{option_map};
+ghost use Rattle.std.specs.Option.{option_copied};
 ghost use Rattle.source.specs.declared.error.SourceError.{SourceError};
 ghost use Rattle.tables.specs.Formats.{FormatLaws};
 ghost use Rattle.tables.specs.Rows.{Format};
@@ -33,7 +33,7 @@ pub(crate) trait RowFormat {
 
     // The first row of what is left; None where the rows have ended.
     fn next_row(rest: &[u8]) -> Option<&[u8]>
-        ensures { option_map (λ x. x.now) result ≡ format.next rest.now };
+        ensures { option_copied result ≡ format.next rest.now };
 
     // Whether a row by itself may stand in such a table.
     fn is_sound(row: &[u8]) -> bool

@@ -1,5 +1,5 @@
 ghost use Rattle.std.specs.Prelude.{◌≡◌, true, ⊤};
-ghost use Rattle.std.specs.Option.{option_map};
+ghost use Rattle.std.specs.Option.{option_copied};
 ghost use Rattle.tables.specs.Formats.{table_laws};
 ghost use Rattle.tables.specs.Meaning.{Checked, Falls, Made};
 ghost use Rattle.tables.specs.Rows.{all_sound, bad_row, fresh, meaning, rows, table_bad, usable, verdict};
@@ -49,7 +49,7 @@ impl<'a, F: RowFormat> Table<'a, F> {
 
     // The value of the first row of that name.
     fn find(&self, name: &[u8]) -> Option<&'a [u8]>
-        ensures { option_map (λ x. x.now) result ≡ meaning F.format self.now.bytes.now name.now }
+        ensures { option_copied result ≡ meaning F.format self.now.bytes.now name.now }
     {
         let mut rest = self.bytes;
         while let Some(row) = F::next_row(rest) {
