@@ -16,7 +16,7 @@ unset s name = None
 pub unset_laws : {S : Type 0} → Lawful (unset {S = S})
 unset_laws = record {
   long = λ s n h. refl;
-  short = λ s n v e. let z : ◌≡◌ {A = ℕ} 0 1 = cc in omega arith;
+  short = λ s n v e. absurd (cc);
 }
 
 -- A source that is reached through another value.

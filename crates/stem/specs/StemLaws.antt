@@ -9,7 +9,7 @@ module _ {S : Type 0} {means : S → List ℕ → Option (List ℕ)} (laws : Law
   long (Some stem) below name h = laws.long below (stem ++ name) (simp length-append (omega arith))
 
   short : (stem : Option (List ℕ)) (below : S) (name value : List ℕ) → under stem (means below) name ≡ Some value → length value ≤ 1024
-  short None below name value e = absurd cc
+  short None below name value e = absurd (cc)
   short (Some stem) below name value e = laws.short below (stem ++ name) value e
 
 pub stem_laws : {S T : Type 0} {means : S → List ℕ → Option (List ℕ)} → Lawful means → (stem : T → Option (List ℕ)) (below : T → S)

@@ -29,7 +29,7 @@ module _ (f : Format) where
   -- a value that is found is a row's
   pub found_where : (rs : List (List ℕ)) (name value : List ℕ) → lookup f rs name ≡ Some value
       → (k : ℕ) × (k < length rs) × (f.name (row_at rs k) ≡ name) × (f.value (row_at rs k) ≡ value)
-  found_where [] name value e = let z : ◌≡◌ {A = ℕ} 0 1 = cc in absurd (omega arith)
+  found_where [] name value e = absurd (cc)
   found_where (r ∷ rs) name value e = go (bytes_eq (f.name r) name) refl (found_where rs name value)
     where
       go : (t : Bool) → t ≡ bytes_eq (f.name r) name
@@ -59,12 +59,11 @@ module _ (f : Format) where
   none_named [] name n j h e = omega arith
   none_named (r ∷ rs) name n zero h e =
       let z = sym (ap is_some (cond-true _ (Some (f.value r)) (lookup f rs name) ((bytes_eq-Decides (f.name r) name).1 e))) ∙ n in
-      let w : ◌≡◌ {A = ℕ} 0 1 = cc in
-      omega arith
+      cc
   none_named (r ∷ rs) name n (suc j) h e = go (bytes_eq (f.name r) name) n (λ m. none_named rs name m j (omega arith) e)
     where
       go : (t : Bool) → is_some (cond t (Some (f.value r)) (lookup f rs name)) ≡ false → (is_some (lookup f rs name) ≡ false → ⊥) → ⊥
-      go true m rec = let z : ◌≡◌ {A = ℕ} 0 1 = cc in omega arith
+      go true m rec = cc
       go false m rec = rec m
 
   module _ (seen : List (List ℕ)) (r : List ℕ) (rs : List (List ℕ)) where
@@ -121,7 +120,7 @@ module _ (f : Format) where
           record {
             within = omega arith;
             before = λ k lt. good_left seen (r ∷ rs) k lt (good k lt);
-            here = λ g. let z = sym (good_fresh seen r rs g) ∙ sym h in let w : ◌≡◌ {A = ℕ} 0 1 = cc in omega arith;
+            here = λ g. let z = sym (good_fresh seen r rs g) ∙ sym h in cc;
             starts = sym (ap (λ q. length (flat q)) (take_at seen (r ∷ rs) (length seen) refl));
           }
 

@@ -40,7 +40,7 @@ taken_front k r bs some left e =
 
 -- a row that is there
 pub some_of : (t : Bool) (r x : List ℕ) → ◌≡◌ {A = Option (List ℕ)} (Some r) (cond t None (Some x)) → (t ≡ false) × (r ≡ x)
-some_of true r x h = let z : ◌≡◌ {A = ℕ} 0 1 = cc in absurd (omega arith)
+some_of true r x h = absurd (cc)
 some_of false r x h = (refl, cc)
 
 front : (r bs : List ℕ) → Some r ≡ next_record bs → Front r bs

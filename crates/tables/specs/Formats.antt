@@ -36,7 +36,7 @@ module _ (f : Format) (laws : FormatLaws f) where
       (cases_Bool (bytes_eq (f.name r) n))
 
   short : (rs : List (List ℕ)) (n v : List ℕ) → all_sound f rs ≡ true → lookup f rs n ≡ Some v → length v ≤ 1024
-  short [] n v ok e = let z : ◌≡◌ {A = ℕ} 0 1 = cc in absurd (omega arith)
+  short [] n v ok e = absurd (cc)
   short (r ∷ rs) n v ok e =
       let p = and_parts (f.sound r) (all_sound f rs) ok in
       let bound = laws.value_bound r p.0 in
