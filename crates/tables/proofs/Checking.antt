@@ -1,6 +1,7 @@
 -- The search for a bad row, row by row.
 use Rattle.std.proofs.Common.{◌≡◌, ℕ, ◌+◌, ◌-◌, ◌≤◌, true, false, cond, not, List, [], ◌∷◌, ◌++◌, length, take, drop, is_some, Some, None, Option, sym, refl, ap, ◌∙◌, append_assoc, append-nil, arith, length-append, length-drop, take-add}
 use Rattle.std.proofs.lemmas.List.{drop-drop, length-take, take_rest}
+use Rattle.std.proofs.lemmas.List.Folds.{concat-append}
 use Rattle.std.proofs.lemmas.Bool.{and_parts, cond-true, cond-false}
 use Rattle.tables.specs.declared.rows.BadRow.{BadRow}
 use Rattle.tables.specs.Formats.{FormatLaws, Front}
@@ -8,8 +9,7 @@ use Rattle.tables.specs.Rows.{Format, all_sound, bad_behind, bad_row, flat, fres
 use Rattle.tables.proofs.Cutting.{all_sound_push, rows_flat, rows_more, rows_none}
 
 flat_push : (rs : List (List ℕ)) (r : List ℕ) → flat (rs ++ (r ∷ [])) ≡ flat rs ++ r
-flat_push [] r = append-nil r
-flat_push (x ∷ rs) r = ap (λ q. x ++ q) (flat_push rs r) ∙ sym (append_assoc x (flat rs) r)
+flat_push rs r = concat-append rs (r ∷ []) ∙ ap (λ q. flat rs ++ q) (append-nil r)
 
 -- The search has come to the row of number `index`, which starts at byte `start`, with the rows `seen` behind it, all sound.
 pub record Checking (f : Format) (bytes : List ℕ) (index start : ℕ) : Type 0 where

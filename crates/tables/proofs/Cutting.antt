@@ -1,8 +1,8 @@
 -- How a table falls into its rows.
 use Rattle.std.proofs.Common.{◌≡◌, ℕ, zero, suc, ◌<◌, ◌≤◌, min, true, List, [], ◌∷◌, ◌++◌, length, take, drop, Some, None, Option, sym, refl, ap, ◌∙◌, subst, append_assoc, arith, length-drop}
 use Rattle.std.proofs.lemmas.List.{drop_at, length-take, take-append-drop}
+use Rattle.std.proofs.lemmas.List.Folds.{list_all-append}
 use Rattle.std.proofs.lemmas.Bool.{and_from, and_parts}
-use Rattle.tables.specs.BookLaws.{take_taken}
 use Rattle.tables.specs.Formats.{FormatLaws}
 use Rattle.tables.specs.Meaning.{Falls, row_at}
 use Rattle.tables.specs.Rows.{Format, all_sound, cut, flat, listed, rows}
@@ -96,15 +96,9 @@ module _ {f : Format} (laws : FormatLaws f) where
   pub falls : (bs : List ℕ) → Falls f bs (rows f bs)
   falls bs = falls_below (length bs) bs (omega arith)
 
-pub take_min : (k : ℕ) (bs : List ℕ) → take (min k (length bs)) bs ≡ take k bs
-take_min k bs = ap (λ n. take n bs) (sym (length-take k bs)) ∙ take_taken k bs
-
 pub rows_nil : (f : Format) → rows f [] ≡ []
 unfolding rows
 rows_nil f = refl
 
 pub all_sound_push : (f : Format) (rs : List (List ℕ)) (r : List ℕ) → all_sound f rs ≡ true → f.sound r ≡ true → all_sound f (rs ++ (r ∷ [])) ≡ true
-all_sound_push f [] r h s = and_from (f.sound r) true s refl
-all_sound_push f (q ∷ rs) r h s =
-    let p = and_parts (f.sound q) (all_sound f rs) h in
-    and_from (f.sound q) (all_sound f (rs ++ (r ∷ []))) p.0 (all_sound_push f rs r p.1 s)
+all_sound_push f rs r h s = list_all-append f.sound rs (r ∷ []) ∙ and_from _ _ h (and_from _ _ s refl)

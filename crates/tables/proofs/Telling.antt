@@ -1,8 +1,9 @@
 -- What the search for a bad row and the search for a name tell of the rows.
 use Rattle.std.proofs.Common.{◌≡◌, ℕ, zero, suc, ◌<◌, ◌≤◌, Bool, true, false, cond, ltb, List, [], ◌∷◌, ◌++◌, length, is_some, Some, None, Option, sym, refl, ap, ◌∙◌, subst, inl, inr, ⊎_elim, append_assoc, append-nil, arith, length-append}
+use Rattle.std.proofs.Math.Seq.{get_or-append_seam}
 use Rattle.std.proofs.lemmas.Slice.Eq.{bytes_eq-Decides}
-use Rattle.std.proofs.lemmas.List.{get_or_append_left, get_or_at, take_at}
-use Rattle.std.proofs.lemmas.Bool.{and_from, and_parts, cases_Bool, cases_lt, cond-true, cond-false, ltb-true, ltb-false, not-true, not_from_false}
+use Rattle.std.proofs.lemmas.List.{get_or_append_left, take_at}
+use Rattle.std.proofs.lemmas.Bool.{and_from, and_parts, cases_lt, cond-true, cond-false, cond_both, false_from_ne_true, ltb-true, ltb-false, not-true, not_from_false}
 use Rattle.std.specs.Str.{bytes_eq}
 use Rattle.tables.specs.declared.rows.BadRow.{BadRow}
 use Rattle.tables.specs.Meaning.{AllGood, Checked, FirstBad, Good, LawfulTable, Made, Searched, Tells, row_at}
@@ -10,11 +11,7 @@ use Rattle.tables.specs.Rows.{Format, all_sound, bad_behind, bad_row, flat, fres
 use Rattle.tables.proofs.Cutting.{rows_nil}
 
 differs : (xs ys : List ℕ) → (xs ≡ ys → ⊥) → bytes_eq xs ys ≡ false
-differs xs ys n =
-    ⊎_elim
-    (λ (t : bytes_eq xs ys ≡ true). absurd (n ((bytes_eq-Decides xs ys).0 t)))
-    (λ (e : bytes_eq xs ys ≡ false). e)
-    (cases_Bool (bytes_eq xs ys))
+differs xs ys n = false_from_ne_true _ (λ t. n ((bytes_eq-Decides xs ys).0 t))
 
 module _ (f : Format) where
   -- the first row of a name gives its value
@@ -30,18 +27,12 @@ module _ (f : Format) where
   pub found_where : (rs : List (List ℕ)) (name value : List ℕ) → lookup f rs name ≡ Some value
       → (k : ℕ) × (k < length rs) × (f.name (row_at rs k) ≡ name) × (f.value (row_at rs k) ≡ value)
   found_where [] name value e = absurd (cc)
-  found_where (r ∷ rs) name value e = go (bytes_eq (f.name r) name) refl (found_where rs name value)
-    where
-      go : (t : Bool) → t ≡ bytes_eq (f.name r) name
-          → (lookup f rs name ≡ Some value → (k : ℕ) × (k < length rs) × (f.name (row_at rs k) ≡ name) × (f.value (row_at rs k) ≡ value))
-          → (k : ℕ) × (k < length (r ∷ rs)) × (f.name (row_at (r ∷ rs) k) ≡ name) × (f.value (row_at (r ∷ rs) k) ≡ value)
-      go true h rec =
-          let here : ◌≡◌ {A = Option (List ℕ)} (Some (f.value r)) (Some value) = sym (cond-true _ _ _ (sym h)) ∙ e in
-          let same : f.value r ≡ value = cc in
-          (0, omega arith, (bytes_eq-Decides (f.name r) name).0 (sym h), same)
-      go false h rec =
-          let more = rec (sym (cond-false _ _ _ (sym h)) ∙ e) in
-          (suc more.0, omega (arith, more.1), more.2, more.3)
+  found_where (r ∷ rs) name value e =
+      cond_both (bytes_eq (f.name r) name) (Some (f.value r)) (lookup f rs name)
+      (λ o. o ≡ Some value → (k : ℕ) × (k < length (r ∷ rs)) × (f.name (row_at (r ∷ rs) k) ≡ name) × (f.value (row_at (r ∷ rs) k) ≡ value))
+      (λ t here. let same : f.value r ≡ value = cc in (0, omega arith, (bytes_eq-Decides (f.name r) name).0 t, same))
+      (λ t there. let more = found_where rs name value there in (suc more.0, omega (arith, more.1), more.2, more.3))
+      e
 
   pub tells : (rs : List (List ℕ)) → AllGood f rs → Tells f rs (lookup f rs)
   tells rs good = record {
@@ -60,15 +51,15 @@ module _ (f : Format) where
   none_named (r ∷ rs) name n zero h e =
       let z = sym (ap is_some (cond-true _ (Some (f.value r)) (lookup f rs name) ((bytes_eq-Decides (f.name r) name).1 e))) ∙ n in
       cc
-  none_named (r ∷ rs) name n (suc j) h e = go (bytes_eq (f.name r) name) n (λ m. none_named rs name m j (omega arith) e)
-    where
-      go : (t : Bool) → is_some (cond t (Some (f.value r)) (lookup f rs name)) ≡ false → (is_some (lookup f rs name) ≡ false → ⊥) → ⊥
-      go true m rec = cc
-      go false m rec = rec m
+  none_named (r ∷ rs) name n (suc j) h e =
+      cond_both (bytes_eq (f.name r) name) (Some (f.value r)) (lookup f rs name) (λ o. is_some o ≡ false → ⊥)
+      (λ t m. cc)
+      (λ t m. none_named rs name m j (omega arith) e)
+      n
 
   module _ (seen : List (List ℕ)) (r : List ℕ) (rs : List (List ℕ)) where
     here_is : row_at (seen ++ (r ∷ rs)) (length seen) ≡ r
-    here_is = get_or_at seen r rs [] (length seen) refl
+    here_is = get_or-append_seam seen r rs []
 
     seen_at : (j : ℕ) → j < length seen → row_at (seen ++ (r ∷ rs)) j ≡ row_at seen j
     seen_at j h = get_or_append_left seen (r ∷ rs) [] j h

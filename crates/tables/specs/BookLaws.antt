@@ -1,7 +1,7 @@
 -- That the format of a book is one of a table.
 use Rattle.std.specs.Prelude.{◌≡◌, ℕ, zero, suc, ◌+◌, ◌-◌, ◌<◌, ◌≤◌, min, Bool, true, false, cond, List, [], ◌∷◌, ◌++◌, length, take, drop, Some, None, Option, slice_index, refl}
 use Rattle.std.proofs.Common.{sym, ap, ◌∙◌, arith, length-append}
-use Rattle.std.proofs.lemmas.List.{length-take, take_at}
+use Rattle.std.proofs.lemmas.List.{length-take, take_at, take_min}
 use Rattle.std.proofs.lemmas.Bool.{and_parts, cond-false, eqb-true, eqb-false, leb-true, ne_eqb}
 use Rattle.tables.specs.Books.{book_format, next_record, record_sound}
 use Rattle.tables.specs.Formats.{FormatLaws, Front}
@@ -26,17 +26,11 @@ sound_record r e =
       value = leb-true (slice_index r 64) 191 f.0;
     }
 
--- as many bytes as were taken are taken again
-pub take_taken : (k : ℕ) (bs : List ℕ) → take (length (take k bs)) bs ≡ take k bs
-take_taken zero bs = refl
-take_taken (suc k) [] = refl
-take_taken (suc k) (b ∷ bs) = ap (λ xs. b ∷ xs) (take_taken k bs)
-
 -- the first bytes of a text are a front of it
 pub taken_front : (k : ℕ) (r bs : List ℕ) → 0 < k → 0 < length bs → r ≡ take k bs → Front r bs
 taken_front k r bs some left e =
     let l : length r ≡ min k (length bs) = ap length e ∙ length-take k bs in
-    record { is = ap (λ x. take (length x) bs) e ∙ take_taken k bs ∙ sym e; some = omega arith; fits = omega arith }
+    record { is = ap (λ n. take n bs) l ∙ take_min k bs ∙ sym e; some = omega arith; fits = omega arith }
 
 -- a row that is there
 pub some_of : (t : Bool) (r x : List ℕ) → ◌≡◌ {A = Option (List ℕ)} (Some r) (cond t None (Some x)) → (t ≡ false) × (r ≡ x)

@@ -1,8 +1,8 @@
 -- What every format of a table keeps, and that a table of sound rows is a lawful source.
 use Rattle.std.specs.Prelude.{◌≡◌, ℕ, ◌<◌, ◌≤◌, true, false, List, [], ◌∷◌, ◌++◌, length, take, Some, None, Option, refl}
-use Rattle.std.proofs.Common.{sym, ap, ◌∙◌, ⊎_elim, arith}
+use Rattle.std.proofs.Common.{ap, arith}
 use Rattle.std.proofs.lemmas.Slice.Eq.{bytes_eq-Decides}
-use Rattle.std.proofs.lemmas.Bool.{and_parts, cases_Bool, cond-true, cond-false}
+use Rattle.std.proofs.lemmas.Bool.{and_parts, cond_both}
 use Rattle.std.specs.Str.{bytes_eq}
 use Rattle.source.specs.Lawful.{Lawful}
 use Rattle.tables.specs.Rows.{Format, all_sound, lookup, meaning, rows}
@@ -26,29 +26,20 @@ module _ (f : Format) (laws : FormatLaws f) where
   long [] n ok h = refl
   long (r ∷ rs) n ok h =
       let p = and_parts (f.sound r) (all_sound f rs) ok in
-      let more = long rs n p.1 h in
       let bound = laws.name_bound r p.0 in
-      ⊎_elim
-      (λ (t : bytes_eq (f.name r) n ≡ true).
-      let same = ap length ((bytes_eq-Decides (f.name r) n).0 t) in
-      absurd (omega arith))
-      (λ (e : bytes_eq (f.name r) n ≡ false). cond-false (bytes_eq (f.name r) n) (Some (f.value r)) (lookup f rs n) e ∙ more)
-      (cases_Bool (bytes_eq (f.name r) n))
+      cond_both (bytes_eq (f.name r) n) (Some (f.value r)) (lookup f rs n) (λ o. o ≡ None)
+      (λ t. let same = ap length ((bytes_eq-Decides (f.name r) n).0 t) in absurd (omega arith))
+      (λ t. long rs n p.1 h)
 
   short : (rs : List (List ℕ)) (n v : List ℕ) → all_sound f rs ≡ true → lookup f rs n ≡ Some v → length v ≤ 1024
   short [] n v ok e = absurd (cc)
   short (r ∷ rs) n v ok e =
       let p = and_parts (f.sound r) (all_sound f rs) ok in
       let bound = laws.value_bound r p.0 in
-      ⊎_elim
-      (λ (t : bytes_eq (f.name r) n ≡ true).
-      let here : ◌≡◌ {A = Option (List ℕ)} (Some (f.value r)) (Some v) = sym (cond-true (bytes_eq (f.name r) n) (Some (f.value r)) (lookup f rs n) t) ∙ e in
-      let same : f.value r ≡ v = cc in
-      let m = ap length same in
-      omega arith)
-      (λ (g : bytes_eq (f.name r) n ≡ false).
-      short rs n v p.1 (sym (cond-false (bytes_eq (f.name r) n) (Some (f.value r)) (lookup f rs n) g) ∙ e))
-      (cases_Bool (bytes_eq (f.name r) n))
+      cond_both (bytes_eq (f.name r) n) (Some (f.value r)) (lookup f rs n) (λ o. o ≡ Some v → length v ≤ 1024)
+      (λ t here. let same : f.value r ≡ v = cc in let m = ap length same in omega arith)
+      (λ t. short rs n v p.1)
+      e
 
   pub table_laws : {T : Type 0} (bytes : T → List ℕ) → ((t : T) → all_sound f (rows f (bytes t)) ≡ true) → Lawful (λ (t : T) n. meaning f (bytes t) n)
   table_laws bytes ok = record {

@@ -1,5 +1,6 @@
 -- A table: rows of bytes, one behind the other, each with a name and a value.
 use Rattle.std.specs.Prelude.{ℕ, zero, suc, Bool, true, cond, not, ◌&&◌, List, [], ◌∷◌, ◌++◌, length, drop, is_some, Some, None, Ok, Err, Option, Result, nat_lt}
+use Rattle.std.specs.List.{concat, list_all}
 use Rattle.std.specs.Str.{bytes_eq}
 use Rattle.source.specs.declared.error.SourceError.{SourceError}
 use Rattle.tables.specs.declared.rows.BadRow.{BadRow}
@@ -43,8 +44,7 @@ fresh f seen r = f.sound r && not (is_some (lookup f seen (f.name r)))
 
 -- rows joined again
 abbrev pub flat : List (List ℕ) → List ℕ
-flat [] = []
-flat (r ∷ rs) = r ++ flat rs
+flat rs = concat rs
 
 -- The first bad row behind the rows seen: its number, counted from 0, and the byte at which it starts.
 abbrev pub bad_behind : Format → List (List ℕ) → List (List ℕ) → Option BadRow
@@ -70,5 +70,4 @@ usable bad bs = cond (is_some bad) [] bs
 
 -- Each row by itself may stand in the table.
 abbrev pub all_sound : Format → List (List ℕ) → Bool
-all_sound f [] = true
-all_sound f (r ∷ rs) = f.sound r && all_sound f rs
+all_sound f rs = list_all f.sound rs
