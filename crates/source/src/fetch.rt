@@ -9,7 +9,7 @@ pub fn lay_bytes(value: &[u8], area: &mut [u8])
     ensures { area.new ≡ laid (Some value.now) area.old }
 {
     let n = value.len().min(area.len());
-    area[0..n].copy_from_slice(&value[0..n]);
+    area[..n].copy_from_slice(&value[..n]);
 }
 
 // Puts a property's value at the front of the area, as much of it as fits, and zeros behind it.

@@ -54,9 +54,9 @@ impl<'a, S: PropertySource> Stem<'a, S> {
         if e > NAME_MAX {
             return None;
         }
-        whole[0..a].copy_from_slice(stem);
+        whole[..a].copy_from_slice(stem);
         whole[a..e].copy_from_slice(name);
-        Some(&whole[0..e])
+        Some(&whole[..e])
     }
 }
 

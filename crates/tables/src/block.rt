@@ -51,7 +51,7 @@ impl RowFormat for Entries {
         {
             return false;
         }
-        is_utf8(&row[..name]) & is_utf8(&row[name + 1..end])
+        is_utf8(&row[..name]) && is_utf8(&row[name + 1..end])
     }
 
     fn name_of(row: &[u8]) -> &[u8] {

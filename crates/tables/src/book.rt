@@ -64,9 +64,9 @@ impl RowFormat for Records {
             return false;
         }
         is_zero(&row[NAME_AT + name..VALUE_LEN_AT])
-            & is_zero(&row[VALUE_AT + value..RECORD_LEN])
-            & is_utf8(&row[NAME_AT..NAME_AT + name])
-            & is_utf8(&row[VALUE_AT..VALUE_AT + value])
+            && is_zero(&row[VALUE_AT + value..RECORD_LEN])
+            && is_utf8(&row[NAME_AT..NAME_AT + name])
+            && is_utf8(&row[VALUE_AT..VALUE_AT + value])
     }
 
     fn name_of(row: &[u8]) -> &[u8] {
