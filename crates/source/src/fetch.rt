@@ -14,6 +14,7 @@ pub fn lay_bytes(value: &[u8], area: &mut [u8])
 
 // Puts a property's value at the front of the area, as much of it as fits, and zeros behind it.
 // Answers how long the value is; None where the name is unset.
+#[tactic(auto, using(crate::proofs::FetchLaws::zeros_behind))]
 pub fn fetch_value<S: PropertySource>(source: &S, name: &[u8], area: &mut [u8]) -> Option<usize>
     ensures length { result ≡ option_map length (S.PropertySource.means source.now name.now) }
     ensures area { area.new ≡ fetched (S.PropertySource.means source.now name.now) (length area.old) }

@@ -45,6 +45,7 @@ impl<'a, S: PropertySource> Stem<'a, S> {
     }
 
     // Stem and name joined; None where the name is unset whatever stands below.
+    #[tactic(auto, using(std::proofs::lemmas::Slice::overwrites))]
     fn join<'b>(&self, name: &[u8], whole: &'b mut [u8; NAME_MAX]) -> Option<&'b [u8]>
         ensures { option_copied result ≡ name_below (option_copied self.now.stem) name.now }
     {
