@@ -155,8 +155,8 @@ module _ (f : Format) where
     }
 
     -- what a source made of these bytes reads is sound
-    pub usable_sound : all_sound f (rows f (usable (table_bad f most top bytes) bytes)) ≡ true
-    usable_sound = go (table_bad f most top bytes) checked
+    pub usable_sound : (kept : List ℕ) → kept ≡ usable (table_bad f most top bytes) bytes → all_sound f (rows f kept) ≡ true
+    usable_sound kept e = ap (λ q. all_sound f (rows f q)) e ∙ go (table_bad f most top bytes) checked
       where
         go : (o : Option BadRow) → Checked f most top bytes o → all_sound f (rows f (usable o bytes)) ≡ true
         go None c = sounds (rows f bytes) c.good

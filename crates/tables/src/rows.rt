@@ -21,10 +21,10 @@ pub(crate) trait RowFormat {
 
     ghost laws: { FormatLaws format };
 
-    ghost MOST: { ℕ };
-
     // The most bytes that a table may have.
     const MOST: usize;
+
+    ghost MOST: { ℕ };
 
     ghost refusal: { BadRow → SourceError };
 
@@ -39,10 +39,12 @@ pub(crate) trait RowFormat {
     fn is_sound(row: &[u8]) -> bool
         ensures { result ≡ format.sound row.now };
 
+    // A sound row's name. No type keeps that a row is sound: it would have to name this trait, which names it.
     fn name_of(row: &[u8]) -> &[u8]
         requires { format.sound row.now ≡ true }
         ensures { result.now ≡ format.name row.now };
 
+    // A sound row's value.
     fn value_of(row: &[u8]) -> &[u8]
         requires { format.sound row.now ≡ true }
         ensures { result.now ≡ format.value row.now };

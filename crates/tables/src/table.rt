@@ -48,6 +48,7 @@ impl<'a, F: RowFormat> Table<'a, F> {
     }
 
     // The value of the first row of that name.
+    // A loop: the rows of an iterator would have to carry that they are sound, since names are asked of sound rows alone.
     fn find(&self, name: &[u8]) -> Option<&'a [u8]>
         ensures { option_copied result ≡ meaning F.format self.now.bytes.now name.now }
     {
@@ -70,6 +71,7 @@ impl<'a, F: RowFormat> Table<'a, F> {
 }
 
 // The first bad row.
+// A loop: an iterator over rows would have to give their starts too, and the rows before.
 fn first_bad<F: RowFormat>(bytes: &[u8]) -> Option<BadRow>
     ensures { result ≡ bad_row F.format bytes.now }
 {
