@@ -1,6 +1,5 @@
 -- What every source keeps, and that the empty source and a lent source keep it.
 use Rattle.std.specs.Prelude.{◌≡◌, ℕ, ◌<◌, ◌≤◌, List, length, Some, None, Option, refl}
-use Rattle.std.proofs.Common.{arith}
 
 -- `means s name` is what the source s has for a name: unset, or a value.
 pub record Lawful {S : Type 0} (means : S → List ℕ → Option (List ℕ)) : Type 0 where

@@ -39,7 +39,8 @@ pub(crate) trait RowFormat {
     fn is_sound(row: &[u8]) -> bool
         ensures { result ≡ format.sound row.now };
 
-    // A sound row's name. No type keeps that a row is sound: it would have to name this trait, which names it.
+    // A sound row's name.
+    // The row comes with a `requires`: a method that takes a `Row<Self>`, which would keep the fact, gets no clauses from its trait.
     fn name_of(row: &[u8]) -> &[u8]
         requires { format.sound row.now ≡ true }
         ensures { result.now ≡ format.name row.now };
