@@ -12,6 +12,7 @@ use std::alloc::AllocError;
 use std::marker::PhantomData;
 
 // A table of properties: rows that are sound each by itself.
+// A ghost field keeps that, and no model: a struct with a model and a lifetime cannot be `Copy`.
 pub struct Table<'a, F: RowFormat> {
     bytes: &'a [u8],
     format: PhantomData<F>,
@@ -20,6 +21,7 @@ pub struct Table<'a, F: RowFormat> {
 
 impl<'a, F: RowFormat> Copy for Table<'a, F> {}
 
+// By hand: `Clone` is not derived over a ghost field.
 impl<'a, F: RowFormat> Clone for Table<'a, F> {
     ghost is_clone = { λ x y. y ≡ x };
 
@@ -70,7 +72,7 @@ impl<'a, F: RowFormat> Table<'a, F> {
     }
 }
 
-// The first bad row.
+// The first bad row; an Option, as of any search.
 // A loop: an iterator over rows would have to give their starts too, and the rows before.
 fn first_bad<F: RowFormat>(bytes: &[u8]) -> Option<BadRow>
     ensures { result ≡ bad_row F.format bytes.now }
