@@ -1,4 +1,5 @@
 ghost use Rattle.std.specs.Prelude.{◌≡◌, ◌+◌, ◌≤◌, length, slice_set};
+ghost use Rattle.pairs.specs.Records.{pair_read};
 ghost use Rattle.scopes.specs.Notes.{append_answer, append_memory, lacks, laid_at, memory, note_answer, note_memory};
 
 use crate::marks::RedactionMarks;
@@ -19,69 +20,66 @@ fn push_record(records: &mut [PairRecord], used: usize, new: PairRecord)
 }
 
 // Lays a text and its result into the bytes from `at` on.
-fn lay_pair(bytes: &mut [u8], at: usize, text: &[u8], res: &[u8])
-    requires { at + length text.now + length res.now ≤ length bytes.old }
-    ensures { bytes.new ≡ laid_at at (text.now, res.now) bytes.old }
+fn lay_pair(bytes: &mut [u8], at: usize, pair: Pair<'_>)
+    requires { at + length pair.text.now + length pair.result.now ≤ length bytes.old }
+    ensures { bytes.new ≡ laid_at at (pair_read pair.entry) bytes.old }
 {
-    let middle = at + text.len();
-    let end = middle + res.len();
-    bytes[at..middle].copy_from_slice(text);
-    bytes[middle..end].copy_from_slice(res);
+    let middle = at + pair.text.len();
+    let end = middle + pair.result.len();
+    bytes[at..middle].copy_from_slice(pair.text);
+    bytes[middle..end].copy_from_slice(pair.result);
 }
 
+// The pair records and the pair bytes stay two parameters: behind a `&mut`, a struct of them would owe in each contract that its loans stay.
 impl RedactionMarks {
     // Whether the innermost open scope lacks a pair.
-    fn lacks(&self, text: &[u8], res: &[u8], records: &[PairRecord], bytes: &[u8]) -> bool
-        ensures { result ≡ lacks (memory self.now records.now bytes.now) (text.now, res.now) }
+    fn lacks(&self, pair: Pair<'_>, records: &[PairRecord], bytes: &[u8]) -> bool
+        ensures { result ≡ lacks (memory self.now records.now bytes.now) (pair_read pair.entry) }
     {
         match self.start {
             None => false,
-            Some(_) => !self
-                .innermost(records, bytes)
-                .has(Pair { text, result: res }),
+            Some(_) => !self.innermost(records, bytes).has(pair),
         }
     }
 
     // Records a pair behind those in use; nothing is changed where there is no room.
     fn append(
         &mut self,
-        text: &[u8],
-        res: &[u8],
+        pair: Pair<'_>,
         records: &mut [PairRecord],
         bytes: &mut [u8],
     ) -> Result<(), PairsFull>
-        ensures says { result ≡ append_answer (memory self.old records.old bytes.old) (text.now, res.now) }
-        ensures memory { memory self.new records.new bytes.new ≡ append_memory (memory self.old records.old bytes.old) (text.now, res.now) }
+        ensures says { result ≡ append_answer (memory self.old records.old bytes.old) (pair_read pair.entry) }
+        ensures memory { memory self.new records.new bytes.new ≡ append_memory (memory self.old records.old bytes.old) (pair_read pair.entry) }
     {
         let at = self.bytes;
         let record = PairRecord {
             at,
-            text: text.len(),
-            result: res.len(),
+            text: pair.text.len(),
+            result: pair.result.len(),
         };
         if records.len() <= self.records || !record.is_within(bytes.len()) {
             return Err(PairsFull);
         }
         push_record(records, self.records, record);
-        lay_pair(bytes, at, text, res);
+        lay_pair(bytes, at, pair);
         self.records += 1;
-        self.bytes = at + text.len() + res.len();
+        self.bytes = at + pair.text.len() + pair.result.len();
         Ok(())
     }
 
     // Notes a pair in every open scope that lacks it: where the innermost does, it takes a record and its bytes.
     pub fn note(
         &mut self,
-        text: &[u8],
-        res: &[u8],
+        pair: Pair<'_>,
         records: &mut [PairRecord],
         bytes: &mut [u8],
     ) -> Result<(), PairsFull>
-        ensures says { result ≡ note_answer (memory self.old records.old bytes.old) (text.now, res.now) }
-        ensures memory { memory self.new records.new bytes.new ≡ note_memory (memory self.old records.old bytes.old) (text.now, res.now) }
+        ensures says { result ≡ note_answer (memory self.old records.old bytes.old) (pair_read pair.entry) }
+        ensures memory { memory self.new records.new bytes.new ≡ note_memory (memory self.old records.old bytes.old) (pair_read pair.entry) }
     {
-        if self.lacks(text, res, records, bytes) {
-            self.append(text, res, records, bytes)?;
+        if self.lacks(pair, records, bytes) {
+            self.append(pair, records, bytes)?;
         }
         Ok(())
     }

@@ -7,6 +7,7 @@ ghost use Rattle.session.specs.declared.error.CallError.{CallError as Refusal};
 use crate::error::CallError;
 use crate::refuse::refuse;
 use answers::Answer;
+use pairs::pair::Pair;
 use pairs::record::PairRecord;
 use scopes::marks::RedactionMarks;
 
@@ -24,7 +25,11 @@ pub(crate) fn note_answer(
     let Answer::Replaced(_) = answer else {
         return Ok(answer);
     };
-    match marks.note(text, answer.text(text, area), records, bytes) {
+    let pair = Pair {
+        text,
+        result: answer.text(text, area),
+    };
+    match marks.note(pair, records, bytes) {
         Ok(()) => Ok(answer),
         Err(full) => refuse(CallError::from(full), area),
     }

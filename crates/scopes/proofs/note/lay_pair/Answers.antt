@@ -5,8 +5,8 @@ use Rattle.scopes.proofs.note.lay_pair.Goals as goal
 
 pub returns : goal.returns
 returns c =
-    let xs : List ℕ = c.args.text.now in
-    let ys : List ℕ = c.args.res.now in
+    let xs : List ℕ = c.args.pair.text.now in
+    let ys : List ℕ = c.args.pair.result.now in
     let at : ℕ = c.args.at in
     let k : at + length xs - at ≡ length xs = omega arith in
     let j : at + length xs + length ys - (at + length xs) ≡ length ys = omega arith in
