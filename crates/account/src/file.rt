@@ -18,6 +18,7 @@ const REDACTION: &str = "docs/REDACTION.md";
 pub(crate) const MAX_WORK: usize = 1000;
 
 // The session, the memory that is lent, and the frames that the longest text needs.
+// Gateway and marks stay two parameters here and below: the guard of a scope holds the marks.
 fn begin(rt: &impl Print, gateway: &mut Gateway, marks: &mut RedactionMarks) -> io::Result<()> {
     line(
         rt,

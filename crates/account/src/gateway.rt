@@ -129,6 +129,7 @@ impl<'a> Gateway<'a> {
         self.reply("value", text, answer, None)
     }
 
+    // As `show_value` but for the redaction that is called.
     pub(crate) fn show_identifier<'t>(
         &mut self,
         marks: &RedactionMarks,

@@ -20,6 +20,7 @@ pub(crate) enum Found<'a> {
 }
 
 // What `byte` begins, with `behind` after it in the frame.
+// The bytes, the syntax and the budget stay three parameters here and below, as the readings of names and references take them.
 #[tactic(auto, unfolding(crate::specs::Items::item))]
 pub(crate) fn read_byte<'a>(
     byte: u8,

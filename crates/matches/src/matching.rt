@@ -25,6 +25,7 @@ pub fn find_match(text: &[u8], needle: &[u8]) -> Option<usize>
 }
 
 // How often the needle stands in the text: from the left, and no two matches overlap.
+// A loop, since what is left to search depends on where the last match stands.
 pub fn count_matches(text: &[u8], needle: &[u8]) -> usize
     ensures { result ≡ length (places needle.now text.now) }
 {

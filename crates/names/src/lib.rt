@@ -73,7 +73,7 @@ fn split_name<'a>(input: &'a [u8], end: usize) -> Option<(&'a [u8], &'a [u8])>
 }
 
 // The name at the front of `input`, with the rest after it.
-// Each character looked at is charged its width, the one that ends the name too.
+// Each character looked at is charged its width, the one that ends the name too; so this is a loop and no chain of iterators.
 pub fn parse_name<'a>(
     input: &'a [u8],
     syntax: PropertySyntax,

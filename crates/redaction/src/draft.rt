@@ -50,7 +50,7 @@ impl<'t, 'a> Draft<'t, 'a> {
         }
     }
 
-    // Replaces `old` bytes at `at` by `new`.
+    // Replaces `old` bytes at `at` by `new`. As of each method, what it leaves alone is one relation, `Kept`.
     pub(crate) fn replace(&mut self, at: usize, old: usize, new: &[u8]) -> Result<(), Unmade>
         requires { at + old ≤ length (standing self.old) }
         ensures says { ending self.new result ≡ fitted (length self.old.area.now) (spliced at old new.now (standing self.old)) }

@@ -37,7 +37,7 @@ impl Draft<'_, '_> {
         Ok(())
     }
 
-    // Takes all pairs, the longest result first.
+    // Takes all pairs, the longest result first. A loop that goes down by lengths: there is no list of them to go over.
     pub(crate) fn take_pairs(&mut self, pairs: &PairList) -> Result<(), Unmade>
         ensures says { ending self.new result ≡ steps (length self.old.area.now) (state_of self.old) (longest_first (scope pairs.now)) }
         ensures keeps { Kept self.old self.new }

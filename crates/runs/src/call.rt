@@ -6,7 +6,7 @@ use references::error::PropertyError;
 use session::error::{CallError, SessionError};
 
 // A call of a run.
-#[derive(Clone, Copy)]
+#[derive(Clone, Copy, PartialEq, Eq, Debug)]
 pub enum Call<'a> {
     // A key whose references are replaced.
     Key(&'a [u8]),

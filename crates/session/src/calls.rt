@@ -131,7 +131,7 @@ impl<S: PropertySource> PropertyInterpolation<S> {
         Ok(answer?)
     }
 
-    // The value with its references replaced.
+    // The value with its references replaced. Its body is that of `interpolate_key` but for the walk and for the type of the refusal.
     pub fn interpolate_value(
         &mut self,
         text: &[u8],

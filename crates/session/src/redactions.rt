@@ -47,6 +47,7 @@ pub fn redact_dynamic_value(
 }
 
 // The text of the first pair of the innermost open scope whose result is the identifier, or the fallback.
+// As `redact_dynamic_value` but for the redaction: passed as a closure, that would be asked for in a clause longer than these lines.
 pub fn redact_dynamic_identifier(
     name: &[u8],
     fallback: &[u8],

@@ -74,6 +74,7 @@ impl RowFormat for Records {
         &row[NAME_AT..NAME_AT + len]
     }
 
+    // A part of the row as `name_of` is: one function for both would ask of its callers that the part lies in the row.
     fn value_of(row: &[u8]) -> &[u8] {
         let len = row[VALUE_LEN_AT] as usize;
         &row[VALUE_AT..VALUE_AT + len]
