@@ -144,7 +144,9 @@ pub(crate) fn parse_line(alloc: Global, text: &str) -> Result<Option<Line>, Allo
         [kind, word] => of_two(alloc, kind, word),
         [kind, first, second] => of_three(alloc, kind, first, second),
         ["session", name, depth, work] => Ok(session_line(name, depth, work)),
-        ["memory", output, frames, records, bytes] => Ok(memory_line(output, frames, records, bytes)),
+        ["memory", output, frames, records, bytes] => Ok(memory_line(
+            output, frames, records, bytes,
+        )),
         _ => Ok(None),
     }
 }
