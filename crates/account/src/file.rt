@@ -1,6 +1,6 @@
 // The cabinet file: its keys and values, what is shown of them, and the pair memory.
 use crate::cabinet::{Entry, LAMP, LIMIT, METER, METER_LOGIN, PASS, TARIFF_PASS};
-use crate::gateway::{AREA, FRAMES, Gateway, MAX_DEPTH, PAIR_BYTES, RECORDS};
+use crate::gateway::{AREA, FRAMES, Gateway, MAX_DEPTH, PAIR_BYTES, RECORDS, Shown};
 use crate::ledger::{NO_COUNTS, line, note, part, told};
 use crate::reply::Reply;
 use names::PropertySyntax;
@@ -87,22 +87,15 @@ fn file_line(
 
 // What the service display shows of messages, values and identifiers of the charge controller.
 fn display(rt: &impl Print, gateway: &mut Gateway, marks: &RedactionMarks) -> io::Result<()> {
-    told(
-        rt,
-        &gateway.show_message(marks, b"login s0l${LIMIT}ar refused"),
-        REDACTION,
-    )?;
-    told(rt, &gateway.show_value(marks, TARIFF_PASS), REDACTION)?;
-    told(
-        rt,
-        &gateway.show_identifier(marks, b"lamp_hall7"),
-        REDACTION,
-    )?;
-    told(
-        rt,
-        &gateway.show_identifier(marks, b"lamp_hall8"),
-        REDACTION,
-    )
+    for (what, text) in [
+        (Shown::Message, b"login s0l${LIMIT}ar refused".as_slice()),
+        (Shown::Value, TARIFF_PASS),
+        (Shown::Identifier, b"lamp_hall7"),
+        (Shown::Identifier, b"lamp_hall8"),
+    ] {
+        told(rt, &gateway.show(what, marks, text), REDACTION)?;
+    }
+    Ok(())
 }
 
 // The calls of one scope.

@@ -26,6 +26,14 @@ pub(crate) const MAX_DEPTH: usize = 4;
 // What the display shows where a value or an identifier may not be shown.
 const FALLBACK: &[u8] = b"(not shown)";
 
+// What a text is that the display is shown.
+#[derive(Clone, Copy, PartialEq, Eq, Debug)]
+pub(crate) enum Shown {
+    Message,
+    Value,
+    Identifier,
+}
+
 #[derive(Drop)]
 pub(crate) struct Gateway<'a> {
     session: PropertyInterpolation<Book<'a>>,
@@ -112,37 +120,30 @@ impl<'a> Gateway<'a> {
         self.reply("value", text, answer, Some(before))
     }
 
-    pub(crate) fn show_message<'t>(&mut self, marks: &RedactionMarks, text: &'t [u8]) -> Reply<'t> {
-        let answer = redact_custom_message(text, marks, &self.records, &self.bytes, &mut self.area);
-        self.reply("message", text, answer, None)
-    }
-
-    pub(crate) fn show_value<'t>(&mut self, marks: &RedactionMarks, text: &'t [u8]) -> Reply<'t> {
-        let answer = redact_dynamic_value(
-            text,
-            FALLBACK,
-            marks,
-            &self.records,
-            &self.bytes,
-            &mut self.area,
-        );
-        self.reply("value", text, answer, None)
-    }
-
-    // As `show_value` but for the redaction that is called.
-    pub(crate) fn show_identifier<'t>(
+    // What the display is shown of a text.
+    pub(crate) fn show<'t>(
         &mut self,
+        what: Shown,
         marks: &RedactionMarks,
         text: &'t [u8],
     ) -> Reply<'t> {
-        let answer = redact_dynamic_identifier(
-            text,
-            FALLBACK,
-            marks,
-            &self.records,
-            &self.bytes,
-            &mut self.area,
-        );
-        self.reply("identifier", text, answer, None)
+        let records = &self.records;
+        let bytes = &self.bytes;
+        let area = &mut self.area;
+        let (call, answer) = match what {
+            Shown::Message => (
+                "message",
+                redact_custom_message(text, marks, records, bytes, area),
+            ),
+            Shown::Value => (
+                "value",
+                redact_dynamic_value(text, FALLBACK, marks, records, bytes, area),
+            ),
+            Shown::Identifier => (
+                "identifier",
+                redact_dynamic_identifier(text, FALLBACK, marks, records, bytes, area),
+            ),
+        };
+        self.reply(call, text, answer, None)
     }
 }

@@ -1,4 +1,5 @@
-ghost use Rattle.std.specs.Prelude.{◌≡◌};
+ghost use Rattle.std.specs.Prelude.{◌≡◌, ◌+◌, ◌≤◌, length, slice_index};
+ghost use Rattle.std.specs.List.{between};
 ghost use Rattle.source.specs.declared.error.SourceError.TheVariants.{BadBook};
 ghost use Rattle.tables.specs.BookLaws.{book_format_laws};
 ghost use Rattle.tables.specs.Books.{book_bad, book_format, book_verdict};
@@ -24,14 +25,21 @@ pub const BOOK_MAX: usize = 65536;
 // The longest value that a record holds.
 pub const RECORD_VALUE_MAX: usize = 191;
 
-// Where the name starts in a record, behind its length.
-const NAME_AT: usize = 1;
+// Where the name's length stands in a record; the name is behind it.
+const NAME_LEN_AT: usize = 0;
 
-// Where the value's length stands in a record, behind the name.
+// Where the value's length stands; the value is behind it.
 const VALUE_LEN_AT: usize = 64;
 
-// Where the value starts in a record, behind its length.
-const VALUE_AT: usize = 65;
+// The bytes behind the one at `at`, which says how many they are.
+fn part(row: &[u8], at: usize) -> &[u8]
+    requires { at + 1 + slice_index row.now at ≤ length row.now }
+    ensures { result.now ≡ between (at + 1) (at + 1 + slice_index row.now at) row.now }
+{
+    let start = at + 1;
+    let end = start + row[at] as usize;
+    &row[start..end]
+}
 
 // The format of a book.
 #[derive(Clone, Copy)]
@@ -58,26 +66,23 @@ impl RowFormat for Records {
         if row.len() != RECORD_LEN {
             return false;
         }
-        let name = row[0] as usize;
+        let name = row[NAME_LEN_AT] as usize;
         let value = row[VALUE_LEN_AT] as usize;
         if name < 1 || name > NAME_MAX || value > RECORD_VALUE_MAX {
             return false;
         }
-        is_zero(&row[NAME_AT + name..VALUE_LEN_AT])
-            && is_zero(&row[VALUE_AT + value..RECORD_LEN])
-            && is_utf8(&row[NAME_AT..NAME_AT + name])
-            && is_utf8(&row[VALUE_AT..VALUE_AT + value])
+        is_zero(&row[NAME_LEN_AT + 1 + name..VALUE_LEN_AT])
+            && is_zero(&row[VALUE_LEN_AT + 1 + value..RECORD_LEN])
+            && is_utf8(part(row, NAME_LEN_AT))
+            && is_utf8(part(row, VALUE_LEN_AT))
     }
 
     fn name_of(row: &[u8]) -> &[u8] {
-        let len = row[0] as usize;
-        &row[NAME_AT..NAME_AT + len]
+        part(row, NAME_LEN_AT)
     }
 
-    // A part of the row as `name_of` is: one function for both would ask of its callers that the part lies in the row.
     fn value_of(row: &[u8]) -> &[u8] {
-        let len = row[VALUE_LEN_AT] as usize;
-        &row[VALUE_AT..VALUE_AT + len]
+        part(row, VALUE_LEN_AT)
     }
 
     fn refusal(bad: BadRow) -> SourceError {
