@@ -1,7 +1,7 @@
 // The cabinet file: its keys and values, what is shown of them, and the pair memory.
 use crate::cabinet::{Entry, LAMP, LIMIT, METER, METER_LOGIN, PASS, TARIFF_PASS};
 use crate::gateway::{AREA, FRAMES, Gateway, MAX_DEPTH, PAIR_BYTES, RECORDS, Shown};
-use crate::ledger::{NO_COUNTS, line, note, part, told};
+use crate::ledger::{Counts, line, note, part, told};
 use crate::reply::Reply;
 use names::PropertySyntax;
 use scopes::marks::RedactionMarks;
@@ -22,19 +22,24 @@ pub(crate) const MAX_WORK: usize = 1000;
 fn begin(rt: &impl Print, gateway: &mut Gateway, marks: &mut RedactionMarks) -> io::Result<()> {
     line(
         rt,
-        NO_COUNTS,
+        Counts::default(),
         "a session over the book, Braced",
         "docs/SESSIONS.md, Session",
     )?;
     println!(rt; "{:50}depth limit {MAX_DEPTH}, work limit {MAX_WORK}", "")?;
-    line(rt, NO_COUNTS, "memory is lent", "docs/SESSIONS.md, Memory")?;
+    line(
+        rt,
+        Counts::default(),
+        "memory is lent",
+        "docs/SESSIONS.md, Memory",
+    )?;
     println!(rt;
         "{:50}{AREA} bytes of output, {FRAMES} frames, {RECORDS} pair records, {PAIR_BYTES} pair bytes",
         ""
     )?;
     line(
         rt,
-        NO_COUNTS,
+        Counts::default(),
         "the longest text of all, with no frame lent",
         "docs/SESSIONS.md, Memory",
     )?;
@@ -43,7 +48,7 @@ fn begin(rt: &impl Print, gateway: &mut Gateway, marks: &mut RedactionMarks) -> 
 
 // How much of the pair memory is in use.
 fn in_use(rt: &impl Print, step: &str, marks: &RedactionMarks) -> io::Result<()> {
-    line(rt, NO_COUNTS, step, "docs/SESSIONS.md, Scopes")?;
+    line(rt, Counts::default(), step, "docs/SESSIONS.md, Scopes")?;
     let records = marks.records;
     let bytes = marks.bytes;
     println!(rt;

@@ -1,5 +1,5 @@
 // A session of the gateway over a book, with the memory that it lends to each call.
-use crate::reply::Reply;
+use crate::reply::{Reply, Work};
 use answers::Answer;
 use names::PropertySyntax;
 use pairs::record::PairRecord;
@@ -72,8 +72,10 @@ impl<'a> Gateway<'a> {
             text,
             answer,
             area: self.area,
-            work: before.map(|n| total.saturating_sub(n)),
-            total: before.map(|_| total),
+            work: before.map(|n| Work {
+                done: total.saturating_sub(n),
+                total,
+            }),
         }
     }
 

@@ -9,7 +9,7 @@ use std::{fmt, io};
 const AREA: usize = 24;
 
 // What a step counts; none where it has no such count.
-#[derive(Clone, Copy)]
+#[derive(Clone, Copy, PartialEq, Eq, Debug, Default)]
 pub(crate) struct Counts {
     pub read: Option<usize>,
     pub asked: Option<usize>,
@@ -18,15 +18,6 @@ pub(crate) struct Counts {
     pub work: Option<usize>,
     pub total: Option<usize>,
 }
-
-pub(crate) const NO_COUNTS: Counts = Counts {
-    read: None,
-    asked: None,
-    written: None,
-    zero: None,
-    work: None,
-    total: None,
-};
 
 fn cell(rt: &impl Print, count: Option<usize>) -> io::Result<()> {
     match count {
@@ -77,7 +68,7 @@ pub(crate) fn checked(
 ) -> io::Result<()> {
     let counts = Counts {
         read: Some(read),
-        ..NO_COUNTS
+        ..Counts::default()
     };
     line(rt, counts, step, page)?;
     match verdict {
@@ -102,18 +93,20 @@ pub(crate) fn delivered<S: PropertySource>(
         asked,
         written: Some(end),
         zero: Some(AREA - end),
-        ..NO_COUNTS
+        ..Counts::default()
     };
     line(rt, counts, step, "docs/SOURCES.md, Questions")?;
-    arrived(rt, asked.is_some(), &area[0..end], typed)
+    let laid = &area[0..end];
+    arrived(rt, asked.map(|_| laid), typed)
 }
 
-// What arrived, beside what was typed.
-fn arrived(rt: &impl Print, is_set: bool, bytes: &[u8], typed: &[u8]) -> io::Result<()> {
+// What arrived, beside what was typed; nothing of a name that is unset.
+fn arrived(rt: &impl Print, bytes: Option<&[u8]>, typed: &[u8]) -> io::Result<()> {
+    let Some(bytes) = bytes else {
+        return note(rt, &"unset");
+    };
     let text = text_of(bytes);
-    if !is_set {
-        note(rt, &"unset")
-    } else if bytes == typed {
+    if bytes == typed {
         println!(rt; "{:50}text, as typed: {text}", "")
     } else {
         println!(rt; "{:50}text, not as typed: {text}", "")

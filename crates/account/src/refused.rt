@@ -2,7 +2,7 @@
 use crate::cabinet::{METER_LOGIN, OTHER_PASS, PASS, book};
 use crate::file::MAX_WORK;
 use crate::gateway::Gateway;
-use crate::ledger::{NO_COUNTS, line, note, part, told};
+use crate::ledger::{Counts, line, note, part, told};
 use names::PropertySyntax;
 use scopes::marks::RedactionMarks;
 use session::breach::BudgetBreach;
@@ -23,7 +23,7 @@ fn refuse_file(rt: &HostRuntime, book: &[u8]) -> io::Result<String> {
     )?;
     let refused = gateway.value(scope.marks, METER_LOGIN);
     told(rt, &refused, "docs/REFUSALS.md")?;
-    let total = refused.total.unwrap_or(0);
+    let total = refused.work.map_or(0, |work| work.total);
     Ok(format!(in rt.alloc(); "{refused}; total {total}")?)
 }
 
@@ -34,7 +34,7 @@ pub(crate) fn compare_passwords(rt: &HostRuntime, first: &[u8]) -> io::Result<()
     let other = refuse_file(rt, &book(OTHER_PASS))?;
     line(
         rt,
-        NO_COUNTS,
+        Counts::default(),
         "the lines that the service display shows",
         "docs/WALK.md, Laws",
     )?;
@@ -50,7 +50,7 @@ pub(crate) fn compare_passwords(rt: &HostRuntime, first: &[u8]) -> io::Result<()
 fn kept_breach(rt: &impl Print, gateway: &Gateway) -> io::Result<()> {
     line(
         rt,
-        NO_COUNTS,
+        Counts::default(),
         "the first limit passed, kept by the session",
         "docs/SESSIONS.md, Session",
     )?;

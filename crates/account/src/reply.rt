@@ -2,11 +2,18 @@
 ghost use Rattle.std.specs.Prelude.{◌≤◌, length};
 
 use crate::gateway::AREA;
-use crate::ledger::{Counts, NO_COUNTS, text_of};
+use crate::ledger::{Counts, text_of};
 use answers::Answer;
 use references::error::{PropertyError, Span};
 use session::error::CallError;
 use std::fmt;
+
+// The work of a call, and the session's total after it.
+#[derive(Clone, Copy, PartialEq, Eq, Debug)]
+pub(crate) struct Work {
+    pub done: usize,
+    pub total: usize,
+}
 
 // A call by its word and text, its answer, and the output area after it.
 #[derive(Clone, Copy)]
@@ -15,9 +22,8 @@ pub(crate) struct Reply<'a> {
     pub text: &'a [u8],
     pub answer: Result<Answer, CallError>,
     pub area: [u8; AREA],
-    // the work of the call, and the session's total after it; none for a redaction
-    pub work: Option<usize>,
-    pub total: Option<usize>,
+    // none for a redaction, which does no work that is counted
+    pub work: Option<Work>,
 }
 
 impl Reply<'_> {
@@ -29,7 +35,7 @@ impl Reply<'_> {
         }
     }
 
-    // How many bytes at the front of the area were written.
+    // How many bytes at the front of the area were written: an answer or a message, else none.
     fn written(&self) -> usize
         ensures { result ≤ length self.now.area }
     {
@@ -52,9 +58,9 @@ impl Reply<'_> {
             read: Some(self.text.len()),
             written: Some(written),
             zero: Some(AREA - written),
-            work: self.work,
-            total: self.total,
-            ..NO_COUNTS
+            work: self.work.map(|work| work.done),
+            total: self.work.map(|work| work.total),
+            ..Counts::default()
         }
     }
 

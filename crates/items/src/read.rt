@@ -20,7 +20,7 @@ pub(crate) enum Found<'a> {
 }
 
 // What `byte` begins, with `behind` after it in the frame.
-// The bytes, the syntax and the budget stay three parameters here and below, as the readings of names and references take them.
+// The bytes, the syntax and the budget stay three parameters here and below: each function hands the three on, and a struct of them would be taken apart at the first call of another crate.
 #[tactic(auto, unfolding(crate::specs::Items::item))]
 pub(crate) fn read_byte<'a>(
     byte: u8,

@@ -3,7 +3,7 @@ ghost use Rattle.std.specs.List.{slice_get};
 ghost use Rattle.matches.specs.Kinds.{Inside, kind_of};
 ghost use Rattle.matches.specs.Places.{places, starts};
 
-// How often a needle stands in a text.
+// How often a needle stands in a text. These are three ways, so it is no Option.
 #[derive(Clone, Copy, PartialEq, Eq, Debug)]
 pub enum Matches {
     Nowhere,

@@ -5,6 +5,7 @@ ghost use Rattle.pairs.specs.Records.{all_within, pair_of, pair_read, within};
 use crate::pair::Pair;
 
 // Where a pair lies in the pair bytes: the text begins at `at`, and the result follows it.
+// Numbers, and no slices: the pair bytes are lent anew to each call.
 #[derive(Clone, Copy, PartialEq, Eq, Debug)]
 pub struct PairRecord {
     pub at: usize,

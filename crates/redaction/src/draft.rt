@@ -6,7 +6,7 @@ ghost use Rattle.std.specs.Option.{ForSome};
 pub(crate) struct Draft<'t, 'a> {
     given: &'t [u8],
     pub(crate) area: &'a mut [u8],
-    // how many bytes the text has that was made; None while nothing is replaced
+    // how many bytes the text has that was made; None while nothing is replaced. The area is lent, so its length cannot say it.
     pub(crate) made: Option<usize>,
     ghost within: { ForSome made (λ len. len ≤ length area.now) },
 }
@@ -50,7 +50,7 @@ impl<'t, 'a> Draft<'t, 'a> {
         }
     }
 
-    // Replaces `old` bytes at `at` by `new`. As of each method, what it leaves alone is one relation, `Kept`.
+    // Replaces `old` bytes at `at` by `new`. What each method leaves alone is one relation, `Kept`.
     pub(crate) fn replace(&mut self, at: usize, old: usize, new: &[u8]) -> Result<(), Unmade>
         requires { at + old ≤ length (standing self.old) }
         ensures says { ending self.new result ≡ fitted (length self.old.area.now) (spliced at old new.now (standing self.old)) }

@@ -52,27 +52,8 @@ fn make(text: &[u8], pairs: &PairList, area: &mut [u8]) -> Result<Option<usize>,
     Ok(draft.made)
 }
 
-// A text in which the results of the pairs are put back to their texts, or the fallback.
-fn redact_with_pairs(
-    text: &[u8],
-    fallback: &[u8],
-    pairs: &PairList,
-    area: &mut [u8],
-) -> Result<Answer, OutputTooShort>
-    ensures says { result ≡ answer_of (redacted (length area.old) fallback.now (scope pairs.now) text.now) }
-    ensures area { area.new ≡ area_of (length area.old) (redacted (length area.old) fallback.now (scope pairs.now) text.now) }
-{
-    if pairs.is_empty() {
-        return finish(Ok(Answer::Unchanged), area);
-    }
-    match make(text, pairs, area) {
-        Ok(Some(len)) => finish(Ok(Answer::Replaced(len)), area),
-        Ok(None) | Err(Unmade::Often) => show(fallback, area),
-        Err(Unmade::TooShort(needed)) => finish(Err(OutputTooShort { needed }), area),
-    }
-}
-
 // A message without the results of the pairs; a fixed text where nothing could be put back.
+#[tactic(auto, using(pairs::proofs::FirstsLaws::each_once, crate::proofs::OrdersHold::order_holds))]
 pub fn redact_message(
     text: &[u8],
     pairs: &PairList,
@@ -83,10 +64,11 @@ pub fn redact_message(
     ensures says { result ≡ answer_of (redacted (length area.old) message_fallback (scope pairs.now) text.now) }
     ensures area { area.new ≡ area_of (length area.old) (redacted (length area.old) message_fallback (scope pairs.now) text.now) }
 {
-    redact_with_pairs(text, MESSAGE_FALLBACK, pairs, area)
+    redact_value(text, MESSAGE_FALLBACK, pairs, area)
 }
 
 // A value without the results of the pairs; the fallback where nothing could be put back.
+#[tactic(auto, using(pairs::proofs::FirstsLaws::each_once, crate::proofs::OrdersHold::order_holds))]
 pub fn redact_value(
     text: &[u8],
     fallback: &[u8],
@@ -98,7 +80,14 @@ pub fn redact_value(
     ensures says { result ≡ answer_of (redacted (length area.old) fallback.now (scope pairs.now) text.now) }
     ensures area { area.new ≡ area_of (length area.old) (redacted (length area.old) fallback.now (scope pairs.now) text.now) }
 {
-    redact_with_pairs(text, fallback, pairs, area)
+    if pairs.is_empty() {
+        return finish(Ok(Answer::Unchanged), area);
+    }
+    match make(text, pairs, area) {
+        Ok(Some(len)) => finish(Ok(Answer::Replaced(len)), area),
+        Ok(None) | Err(Unmade::Often) => show(fallback, area),
+        Err(Unmade::TooShort(needed)) => finish(Err(OutputTooShort { needed }), area),
+    }
 }
 
 // The text of the first pair whose result is the identifier, or the fallback.

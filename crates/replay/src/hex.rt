@@ -1,7 +1,11 @@
-// Bytes as a script has them: two digits each, and `-` for none at all.
+// Bytes as a script has them: two small digits each, and `-` for none at all. The kit's `hex` takes capitals too.
+ghost use Rattle.std.specs.Prelude.{◌<◌, IfSome};
+
 use std::alloc::{AllocError, Global};
 
-fn digit(byte: u8) -> Option<u8> {
+fn digit(byte: u8) -> Option<u8>
+    ensures { IfSome result (λ d. d < 16) }
+{
     match byte {
         b'0'..=b'9' => Some(byte - b'0'),
         b'a'..=b'f' => Some(byte - b'a' + 10),
@@ -11,7 +15,7 @@ fn digit(byte: u8) -> Option<u8> {
 
 fn byte(digits: &[u8]) -> Option<u8> {
     match digits {
-        [high, low] => Some((digit(*high)? & 15) * 16 + (digit(*low)? & 15)),
+        [high, low] => Some(digit(*high)? * 16 + digit(*low)?),
         _ => None,
     }
 }

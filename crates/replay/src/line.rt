@@ -3,11 +3,12 @@ use crate::hex::unhex;
 use names::PropertySyntax;
 use std::alloc::{AllocError, Global};
 
-#[derive(Clone, Copy, PartialEq, Eq, Debug)]
-pub(crate) enum SourceKind {
+// A source with bytes of its own.
+#[derive(Drop)]
+pub(crate) enum OwnSource {
     Empty,
-    Book,
-    Block,
+    Book(Vec<u8>),
+    Block(Vec<u8>),
 }
 
 // How much memory the sessions from here on are lent.
@@ -27,7 +28,7 @@ pub(crate) struct Settings {
     pub work: usize,
 }
 
-// A call with bytes of its own.
+// A call with bytes of its own. No generic `Call`: the contract and the model of a run speak of bytes that are lent.
 #[derive(Drop)]
 pub(crate) enum OwnCall {
     Key(Vec<u8>),
@@ -43,7 +44,7 @@ pub(crate) enum OwnCall {
 pub(crate) enum Line {
     // Nothing, or a remark.
     Blank,
-    Source(SourceKind, Vec<u8>),
+    Source(OwnSource),
     Stem(Vec<u8>),
     Memory(Sizes),
     Session(Settings),
@@ -103,7 +104,7 @@ fn with_fallback(kind: &str, bytes: Vec<u8>, fallback: Vec<u8>) -> Option<Line> 
 // A line of two words.
 fn of_two(alloc: Global, kind: &str, word: &str) -> Result<Option<Line>, AllocError> {
     if kind == "source" && word == "empty" {
-        return Ok(Some(Line::Source(SourceKind::Empty, Vec::new(alloc))));
+        return Ok(Some(Line::Source(OwnSource::Empty)));
     }
     match unhex(alloc, word)? {
         Some(bytes) => Ok(with_bytes(kind, bytes)),
@@ -122,8 +123,8 @@ fn of_three(
         return Ok(None);
     };
     match (kind, first) {
-        ("source", "book") => Ok(Some(Line::Source(SourceKind::Book, last))),
-        ("source", "block") => Ok(Some(Line::Source(SourceKind::Block, last))),
+        ("source", "book") => Ok(Some(Line::Source(OwnSource::Book(last)))),
+        ("source", "block") => Ok(Some(Line::Source(OwnSource::Block(last)))),
         _ => match unhex(alloc, first)? {
             Some(bytes) => Ok(with_fallback(kind, bytes, last)),
             None => Ok(None),

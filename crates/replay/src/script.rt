@@ -1,7 +1,7 @@
 // A script, line by line.
-use crate::line::{Line, OwnCall, Settings, Sizes, SourceKind};
+use crate::line::{Line, OwnCall, OwnSource, Settings, Sizes};
 use crate::printer::Printer;
-use crate::run_calls::{Layers, run_calls};
+use crate::run_calls::{Begun, Layers};
 use source::error::SourceError;
 use std::alloc::{AllocError, Global};
 use std::io;
@@ -47,8 +47,7 @@ impl Script {
         Script {
             alloc,
             layers: Layers {
-                kind: SourceKind::Empty,
-                bytes: Vec::new(alloc),
+                source: OwnSource::Empty,
                 stems: Vec::new(alloc),
             },
             sizes: AMPLE,
@@ -67,14 +66,13 @@ impl Script {
             open: 0,
             told: Ok(()),
         };
-        run_calls(
-            self.alloc,
-            &self.layers,
+        let begun = Begun {
+            alloc: self.alloc,
             settings,
-            self.sizes,
-            self.calls.as_slice(),
-            &mut printer,
-        )?;
+            sizes: self.sizes,
+            calls: self.calls.as_slice(),
+        };
+        begun.run_on(&self.layers, &mut printer)?;
         self.calls.clear();
         let out = printer.out.as_str();
         print!(rt; "{out}")?;
@@ -84,11 +82,8 @@ impl Script {
     pub(crate) fn take(&mut self, rt: &impl Print, line: Line) -> io::Result<()> {
         match line {
             Line::Blank => Ok(()),
-            Line::Call(call) => {
-                self.calls.push(call)?;
-                Ok(())
-            }
-            Line::Source(kind, bytes) => self.take_source(rt, kind, bytes),
+            Line::Call(call) => self.take_call(call),
+            Line::Source(source) => self.take_source(rt, source),
             Line::Stem(bytes) => self.take_stem(rt, bytes),
             Line::Memory(sizes) => {
                 self.finish(rt)?;
@@ -103,15 +98,23 @@ impl Script {
         }
     }
 
-    fn take_source(&mut self, rt: &impl Print, kind: SourceKind, bytes: Vec<u8>) -> io::Result<()> {
+    // A call before any session, or behind a line that ended one, is refused.
+    fn take_call(&mut self, call: OwnCall) -> io::Result<()> {
+        if self.session.is_none() {
+            return Err(io::Error::from(io::ErrorKind::InvalidData));
+        }
+        self.calls.push(call)?;
+        Ok(())
+    }
+
+    fn take_source(&mut self, rt: &impl Print, source: OwnSource) -> io::Result<()> {
         self.finish(rt)?;
-        let verdict = match kind {
-            SourceKind::Empty => Ok(()),
-            SourceKind::Book => check_book(bytes.as_slice()),
-            SourceKind::Block => check_block(bytes.as_slice()),
+        let verdict = match &source {
+            OwnSource::Empty => Ok(()),
+            OwnSource::Book(bytes) => check_book(bytes.as_slice()),
+            OwnSource::Block(bytes) => check_block(bytes.as_slice()),
         };
-        self.layers.kind = kind;
-        self.layers.bytes = bytes;
+        self.layers.source = source;
         self.layers.stems.clear();
         show_verdict(rt, verdict)
     }

@@ -18,6 +18,7 @@ use source::source::PropertySource;
 use stack::Stack;
 use walk::frame::ExpansionFrame;
 
+// The lent memories stay parameters, as in the calls of a session.
 // One call of a run. A scope that is opened has the start of the one before it kept.
 fn step<S: PropertySource>(
     session: &mut PropertyInterpolation<S>,

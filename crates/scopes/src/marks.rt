@@ -6,6 +6,7 @@ use pairs::list::PairList;
 use pairs::record::{PairRecord, are_within};
 
 // How much of the pair memory is in use, and where the innermost open scope starts. The marks stand beside a session.
+// Numbers, and no slices: the pair memory is lent anew to each call.
 #[derive(Clone, Copy, PartialEq, Eq, Debug)]
 pub struct RedactionMarks {
     // how many pair records are in use
@@ -57,7 +58,7 @@ impl RedactionMarks {
         used <= records.len() && are_within(&records[0..used], n)
     }
 
-    // The pairs of the innermost open scope, as they were recorded; none where no scope is open.
+    // The pairs of the innermost open scope, as they were recorded; none where no scope is open. No Option: a redaction then answers as over a scope without pairs.
     pub fn innermost<'r, 'b>(&self, records: &'r [PairRecord], bytes: &'b [u8]) -> PairList<'r, 'b>
         ensures { listed result ≡ innermost self.now records.now bytes.now }
     {

@@ -131,7 +131,7 @@ impl<S: PropertySource> PropertyInterpolation<S> {
         Ok(answer?)
     }
 
-    // The value with its references replaced. Its body is that of `interpolate_key` but for the walk and for the type of the refusal.
+    // The value with its references replaced. As `interpolate_key`: one function for both would take the walk as a closure, and ask for it in a clause as long as these lines.
     pub fn interpolate_value(
         &mut self,
         text: &[u8],

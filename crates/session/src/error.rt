@@ -34,8 +34,7 @@ impl CallError {
         ensures { result ≡ refusal_number self.now }
     {
         match self {
-            CallError::Text(TextError::TooLong) => 1,
-            CallError::Text(TextError::NotUtf8(_)) => 2,
+            CallError::Text(error) => error.number(),
             CallError::TooFewFrames(_) => 3,
             CallError::Property(PropertyError::Unresolved(_)) => 4,
             CallError::Property(PropertyError::InvalidName(_)) => 5,

@@ -12,6 +12,8 @@ use pairs::record::PairRecord;
 use redaction::redact::{MESSAGE_FALLBACK, redact_identifier, redact_value};
 use scopes::marks::RedactionMarks;
 
+// The lent memories stay parameters, as in the key and value calls.
+
 // A message without the results of the pairs of the innermost open scope; a fixed text where nothing could be put back.
 pub fn redact_custom_message(
     text: &[u8],
@@ -47,7 +49,7 @@ pub fn redact_dynamic_value(
 }
 
 // The text of the first pair of the innermost open scope whose result is the identifier, or the fallback.
-// As `redact_dynamic_value` but for the redaction: passed as a closure, that would be asked for in a clause longer than these lines.
+// As `redact_dynamic_value`: one function for both would take the redaction as a closure, with a clause longer than these lines.
 pub fn redact_dynamic_identifier(
     name: &[u8],
     fallback: &[u8],

@@ -4,7 +4,7 @@ ghost use Rattle.source.specs.Refusals.{refusal_number};
 // Why a book, a block or a stem is unlawful.
 #[derive(Clone, Copy, PartialEq, Eq, Debug)]
 pub enum SourceError {
-    // The number of the first bad record; 256 where the book is too long.
+    // The number of the first bad record; 256 where the book is too long. One number for both, since a refusal is handed over as a number and one value.
     BadBook(usize),
     // The start of the first bad entry; 16384 where the block is too long.
     BadBlock(usize),

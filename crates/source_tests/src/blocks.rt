@@ -8,9 +8,7 @@ use tables::block::{Block, check_block};
 fn entry(heap: Global, name_len: usize, value_len: usize) -> Result<Vec<u8>, AllocError> {
     let mut bytes = vec![in heap; b'N'; name_len]?;
     bytes.push(b'=')?;
-    for _ in 0..value_len {
-        bytes.push(b'v')?;
-    }
+    bytes.resize(bytes.len().saturating_add(value_len), b'v')?;
     bytes.push(0)?;
     Ok(bytes)
 }
@@ -78,9 +76,7 @@ fn lengths_of_blocks(rt: HostRuntime) -> Result<(), Fail> {
     ];
     for (len, verdict) in cases {
         let mut bytes = entry(rt.alloc(), 2, 3)?;
-        for _ in bytes.len()..len {
-            bytes.push(0)?;
-        }
+        bytes.resize(len, 0)?;
         assert_eq!(rt; check_block(&bytes), verdict);
     }
     Ok(())

@@ -5,6 +5,7 @@ use std::test::Fail;
 use tables::book::{Book, check_book};
 
 // Appends a record; a name of over 63 bytes or a value of over 191 makes it longer than a record is.
+// The zeros are pushed: `resize` would have to be told how long the book is then, which is no shorter.
 fn push_record(book: &mut Vec<u8>, name: &[u8], value: &[u8]) -> Result<(), AllocError> {
     book.push((name.len() % 256) as u8)?;
     book.extend_from_slice(name)?;

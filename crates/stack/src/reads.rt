@@ -15,6 +15,7 @@ impl<'a, T: Copy> Stack<'a, T> {
     }
 
     // A stack whose first `len` elements stand in the memory given already; all of it where it is shorter.
+    // No Option of a stack: tried, and the check makes no proof for an Option of a struct with a fact and a loan.
     pub fn with_len(items: &'a mut [T], len: usize) -> Self
         ensures elements { held result ≡ take len items.old }
         ensures memory { memory result ≡ items.old }

@@ -21,9 +21,6 @@ pub record Checking (f : Format) (bytes : List ℕ) (index start : ℕ) : Type 0
   pub count : index ≡ length seen
   pub few : index ≤ start
 
-pub check_start : (f : Format) (bytes : List ℕ) → Checking f bytes 0 0
-check_start f bytes = record { seen = []; behind = refl; sound = refl; bad = refl; fits = omega arith; count = refl; few = omega arith }
-
 module _ {f : Format} (laws : FormatLaws f) {bytes : List ℕ} {index start : ℕ} (k : Checking f bytes index start) where
   pub behind_rows : rows f (take start bytes) ≡ k.seen
   behind_rows = sym (ap (rows f) k.behind) ∙ rows_flat laws k.seen k.sound

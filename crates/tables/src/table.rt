@@ -72,7 +72,7 @@ impl<'a, F: RowFormat> Table<'a, F> {
     }
 }
 
-// The first bad row; an Option, as of any search.
+// The first bad row, if any.
 // A loop: an iterator over rows would have to give their starts too, and the rows before.
 fn first_bad<F: RowFormat>(bytes: &[u8]) -> Option<BadRow>
     ensures { result ≡ bad_row F.format bytes.now }

@@ -14,6 +14,7 @@ use selected::needs_expansion;
 use source::source::PropertySource;
 
 // The message of a required property begins anew; any other text that is selected is a replacement.
+// Text and completion stay two parameters here and below: they are what the action holds, and each call takes them apart.
 fn begin_selected(completion: FrameCompletion, depth: usize, walk: &mut Walk<'_, '_>)
     ensures { (means : List ℕ → Option (List ℕ)) (deep : ℕ) → Passes means deep (begun_by depth completion) walk.old walk.new }
 {

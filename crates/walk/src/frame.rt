@@ -2,6 +2,7 @@ use items::action::FrameCompletion;
 use names::PropertySyntax;
 
 // A part of the text that is walked: the bytes from `start` to the one before `end`. What is left of it starts at the cursor.
+// Numbers, and no slices: frames lie in memory that outlives the text.
 #[derive(Clone, Copy, PartialEq, Eq, Debug)]
 pub struct ExpansionFrame {
     pub start: usize,

@@ -63,6 +63,7 @@ impl From<OutputTooShort> for InterpolateError {
 }
 
 // Whether the output area is to keep what was put out: a new text, or a message.
+// The flag is the mark that the walk kept: a result that holds it would be made of both only to be taken apart again.
 fn has_text(walked: Result<(), PropertyError>, changed: bool) -> bool
     ensures { result ≡ has_text walked changed }
 {

@@ -3,8 +3,8 @@ use budget::WorkBudget;
 use names::PropertySyntax;
 use output::Output;
 
-// What a walk is given, and leaves as it is. It is copied whatever the source is.
-#[derive_where(Clone, Copy)]
+// What a walk is given, and leaves as it is.
+#[derive(Drop)]
 pub(crate) struct Given<'g, S> {
     pub source: &'g S,
     pub text: &'g [u8],
