@@ -35,7 +35,7 @@ impl Reply<'_> {
         }
     }
 
-    // How many bytes at the front of the area were written: an answer or a message, else none.
+    // How many bytes at the front of the area were written: an answer or a message, else none. The length of a message stands in its refusal alone.
     fn written(&self) -> usize
         ensures { result ≤ length self.now.area }
     {
