@@ -1,8 +1,9 @@
 -- What an output holds after each step.
-use Rattle.std.proofs.Common.{◌≡◌, ℕ, ◌+◌, ◌-◌, ◌^◌, ◌<◌, min, List, [], ◌++◌, length, get_or, take, drop, Some, None, Option, sym, refl, ap, ◌∙◌, subst, append_assoc, arith, length-append, MutBor, rules}
+use Rattle.std.proofs.Common.{◌≡◌, ℕ, ◌+◌, ◌-◌, ◌^◌, ◌<◌, ◌≤◌, min, List, [], ◌++◌, length, get_or, take, drop, set, Some, None, Option, sym, refl, ap, ◌∙◌, subst, append_assoc, arith, length-append, MutBor, rules}
 use borrow.Rule.Slice.PartMut.{put_mid}
 use denote.Ref.{at_last}
-use Rattle.std.proofs.lemmas.List.{append-nil, places, same_lists, take_all}
+use Rattle.std.proofs.lemmas.List.{append-nil, places, same_lists, take_all, get_or-set_same, get_or-set_other}
+use Rattle.std.proofs.lemmas.Bool.{cases_eq}
 use Rattle.source.specs.Laying.{laid}
 use Rattle.source.specs.Shapes.{bytes_of}
 use Rattle.output.specs.declared.Output.{Output}
@@ -15,6 +16,15 @@ none_of n = sym (take_all n [] (omega arith))
 laid_bytes : (m : Option (List ℕ)) (area : List ℕ) → laid m area ≡ laid (Some (bytes_of m)) area
 laid_bytes None area = ap (λ l. l ++ area) (none_of (length area))
 laid_bytes (Some value) area = refl
+
+-- a byte at its place, or none where the area is full
+module _ (area bytes : List ℕ) (at : ℕ) where
+  pub byte_laid : (byte : ℕ) → byte ≡ get_or bytes 0 0 → length bytes ≡ 1 → at < length area → set area at byte ≡ laid_behind at bytes area
+  byte_laid byte b v l =
+      same_lists _ _ (search (rules, places)) (λ k d h. grind (arith, places, get_or-set_same, get_or-set_other, cases_eq k at))
+
+  pub past_laid : length area ≤ at → area ≡ laid_behind at bytes area
+  past_laid l = same_lists _ _ (search (rules, places)) (λ k d h. grind (arith, places))
 
 -- bytes, or a value, laid into the part of the area behind the text
 bytes_part : (bytes area part : List ℕ) (at len : ℕ) → at ≡ min len (length area) → part ≡ laid (Some bytes) (take (length area - at) (drop at area))

@@ -41,12 +41,16 @@ impl<'a> Output<'a> {
         self.len = 0;
     }
 
-    // One byte more.
+    // One byte more. In place, since most of a text is put byte by byte.
     pub fn put_byte(&mut self, byte: u8)
         ensures puts { self.new ≡ put (byte ∷ []) 1 self.old }
         ensures grows { Grows self.old (byte ∷ []) self.new }
     {
-        self.put_bytes(&[byte]);
+        let at = self.len;
+        if at < self.area.len() {
+            self.area[at] = byte;
+        }
+        self.len = at.saturating_add(1);
     }
 
     // The bytes of a part more.
