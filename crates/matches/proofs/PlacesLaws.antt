@@ -1,5 +1,5 @@
 -- The places of the matches, from one match to the next. Assumes nothing.
-use Rattle.std.proofs.Common.{◌≡◌, ℕ, zero, suc, ◌+◌, ◌-◌, ◌<◌, ◌≤◌, Bool, true, false, cond, ◌&&◌, leb, List, [], ◌∷◌, length, take, drop, Some, None, sym, refl, ap, ◌∙◌, subst, arith}
+use Rattle.std.proofs.Common.{◌≡◌, ℕ, zero, suc, ◌+◌, ◌-◌, ◌<◌, ◌≤◌, Bool, true, false, cond, ◌&&◌, leb, List, [], ◌∷◌, length, take, drop, Some, None, Option, sym, refl, ap, ◌∙◌, subst, arith}
 use Rattle.std.proofs.lemmas.List.{length-take}
 use Rattle.std.proofs.lemmas.Bool.{cond-true, cond-false, leb-false, lt-ltb, lt-leb, le-leb}
 use Rattle.std.proofs.lemmas.Bool.Decides.{same_from_decides}
@@ -9,6 +9,9 @@ use Rattle.std.proofs.lemmas.Iterator.Splits.{YieldsList-from_shown_while}
 use Rattle.std.specs.List.{position_from, slice_get}
 use Rattle.std.specs.Slice.Iter.{windows_rest, windows_size, windows_steps}
 use Rattle.std.specs.Str.{bytes_eq}
+use Rattle.matches.specs.declared.matching.Matches.{Matches}
+use Rattle.matches.specs.declared.matching.Matches.TheVariants.{Often, Once}
+use Rattle.matches.specs.Kinds.{kind_of}
 use Rattle.matches.specs.Places.{places, spots, starts}
 
 -- the parts of k bytes that `windows` gives
@@ -111,9 +114,27 @@ module _ (n : List ℕ) (some : 0 < length n) where
       let k : at - 0 + length n ≡ at + length n = omega arith in
       (count_more text 0 at e).1 ∙ ap (λ m. suc (length (places n (drop m text)))) k
 
-pub count_none : (ps : List ℕ) → slice_get ps 0 ≡ None → length ps ≡ 0
-count_none [] e = refl
-count_none (p ∷ ps) e = absurd (cc)
+-- how often it stands there, by the place of the first match and what stands behind it
+abbrev by_next : ℕ → Option ℕ → Matches
+by_next at None = Once at
+by_next at (Some m) = Often
+
+kind_by : (ps qs : List ℕ) (at : ℕ) → slice_get ps 0 ≡ Some at → length ps ≡ suc (length qs) → kind_of ps ≡ by_next at (slice_get qs 0)
+kind_by [] qs at e n = absurd (cc)
+kind_by (p ∷ []) [] at e n = cc
+kind_by (p ∷ []) (q ∷ qs) at e n = absurd (omega arith)
+kind_by (p ∷ r ∷ ps) [] at e n = absurd (omega arith)
+kind_by (p ∷ r ∷ ps) (q ∷ qs) at e n = refl
+
+module _ (n text : List ℕ) (at : ℕ) (some : 0 < length n) (first : Some at ≡ slice_get (places n text) 0) where
+  kind_on : kind_of (places n text) ≡ by_next at (slice_get (places n (drop (at + length n) text)) 0)
+  kind_on = kind_by (places n text) (places n (drop (at + length n) text)) at (sym first) (count_on n some text at (sym first))
+
+  pub once : None ≡ slice_get (places n (drop (at + length n) text)) 0 → Once at ≡ kind_of (places n text)
+  once e = sym (kind_on ∙ ap (by_next at) (sym e))
+
+  pub often : (m : ℕ) → Some m ≡ slice_get (places n (drop (at + length n) text)) 0 → Often ≡ kind_of (places n text)
+  often m e = sym (kind_on ∙ ap (by_next at) (sym e))
 
 -- an empty needle stands nowhere
 pub empty_nowhere : (n text : List ℕ) → length n ≡ 0 → places n text ≡ []

@@ -24,33 +24,16 @@ pub fn find_match(text: &[u8], needle: &[u8]) -> Option<usize>
     text.windows(needle.len()).position(|part| part == needle)
 }
 
-// How often the needle stands in the text: from the left, and no two matches overlap.
-// A loop, since what is left to search depends on where the last match stands.
-pub fn count_matches(text: &[u8], needle: &[u8]) -> usize
-    ensures { result ≡ length (places needle.now text.now) }
-{
-    let mut count = 0;
-    let mut rest = text;
-    while let Some(at) = find_match(rest, needle) {
-        count += 1;
-        rest = &rest[at + needle.len()..];
-    }
-    count
-}
-
-// Whether the needle stands in the text nowhere, once or more often.
+// Whether the needle stands in the text nowhere, once or more often: from the left, and no two matches overlap.
 pub fn sole_match(text: &[u8], needle: &[u8]) -> Matches
     ensures says { result ≡ kind_of (places needle.now text.now) }
     ensures within { Inside (length text.now) (length needle.now) result }
 {
-    match find_match(text, needle) {
-        None => Matches::Nowhere,
-        Some(at) => {
-            if count_matches(text, needle) == 1 {
-                Matches::Once(at)
-            } else {
-                Matches::Often
-            }
-        }
+    let Some(at) = find_match(text, needle) else {
+        return Matches::Nowhere;
+    };
+    match find_match(&text[at + needle.len()..], needle) {
+        None => Matches::Once(at),
+        Some(_) => Matches::Often,
     }
 }
