@@ -79,10 +79,15 @@ impl Script {
         Ok(printer.told?)
     }
 
+    // Whether a line may stand here: a call needs a session that was begun, and that no line has ended.
+    pub(crate) fn admits(&self, line: &Line) -> bool {
+        self.session.is_some() || !matches!(line, Line::Call(_))
+    }
+
     pub(crate) fn take(&mut self, rt: &impl Print, line: Line) -> io::Result<()> {
         match line {
             Line::Blank => Ok(()),
-            Line::Call(call) => self.take_call(call),
+            Line::Call(call) => Ok(self.calls.push(call)?),
             Line::Source(source) => self.take_source(rt, source),
             Line::Stem(bytes) => self.take_stem(rt, bytes),
             Line::Memory(sizes) => {
@@ -96,15 +101,6 @@ impl Script {
                 println!(rt; "session")
             }
         }
-    }
-
-    // A call before any session, or behind a line that ended one, is refused.
-    fn take_call(&mut self, call: OwnCall) -> io::Result<()> {
-        if self.session.is_none() {
-            return Err(io::Error::from(io::ErrorKind::InvalidData));
-        }
-        self.calls.push(call)?;
-        Ok(())
     }
 
     fn take_source(&mut self, rt: &impl Print, source: OwnSource) -> io::Result<()> {
