@@ -55,13 +55,15 @@ impl RowFormat for Entries {
     }
 
     fn name_of(row: &[u8]) -> &[u8] {
-        let name = find_byte(row, b'=').unwrap();
-        &row[..name]
+        find_byte(row, b'=').map_or(row, |name| &row[..name])
     }
 
     fn value_of(row: &[u8]) -> &[u8] {
-        let name = find_byte(row, b'=').unwrap();
-        &row[name + 1..row.len() - 1]
+        let Some(name) = find_byte(row, b'=') else {
+            return &[];
+        };
+        let end = find_byte(row, 0).unwrap_or(row.len());
+        row.get(name + 1..end).unwrap_or(&[])
     }
 
     fn refusal(bad: BadRow) -> SourceError {

@@ -1,4 +1,4 @@
-ghost use Rattle.std.specs.Prelude.{◌≡◌, ◌+◌, ◌≤◌, length, slice_index};
+ghost use Rattle.std.specs.Prelude.{◌≡◌, ◌+◌, slice_index};
 ghost use Rattle.std.specs.List.{between};
 ghost use Rattle.source.specs.declared.error.SourceError.TheVariants.{BadBook};
 ghost use Rattle.tables.specs.BookLaws.{book_format_laws};
@@ -31,14 +31,14 @@ const NAME_LEN_AT: usize = 0;
 // Where the value's length stands; the value is behind it.
 const VALUE_LEN_AT: usize = 64;
 
-// The bytes behind the one at `at`, which says how many they are.
+// The bytes behind the one at `at`, which says how many they are; as many as there are, in a row that is cut short.
 fn part(row: &[u8], at: usize) -> &[u8]
-    requires { at + 1 + slice_index row.now at ≤ length row.now }
     ensures { result.now ≡ between (at + 1) (at + 1 + slice_index row.now at) row.now }
 {
-    let start = at + 1;
-    let end = start + row[at] as usize;
-    &row[start..end]
+    match row.get(at..) {
+        Some([len, rest @ ..]) => &rest[..rest.len().min(*len as usize)],
+        _ => &[],
+    }
 }
 
 // The format of a book.

@@ -1,4 +1,4 @@
-ghost use Rattle.std.specs.Prelude.{◌≡◌, ℕ, true};
+ghost use Rattle.std.specs.Prelude.{◌≡◌, ℕ};
 ghost use Rattle.std.specs.Option.{option_copied};
 ghost use Rattle.source.specs.declared.error.SourceError.{SourceError};
 ghost use Rattle.tables.specs.Formats.{FormatLaws};
@@ -39,15 +39,12 @@ pub(crate) trait RowFormat {
     fn is_sound(row: &[u8]) -> bool
         ensures { result ≡ format.sound row.now };
 
-    // A sound row's name.
-    // The row comes with a `requires`: a method that takes a `Row<Self>`, which would keep the fact, gets no clauses from its trait.
+    // A row's name, whether it is sound or not.
     fn name_of(row: &[u8]) -> &[u8]
-        requires { format.sound row.now ≡ true }
         ensures { result.now ≡ format.name row.now };
 
-    // A sound row's value.
+    // A row's value, whether it is sound or not.
     fn value_of(row: &[u8]) -> &[u8]
-        requires { format.sound row.now ≡ true }
         ensures { result.now ≡ format.value row.now };
 
     // The refusal of a table with a bad row.

@@ -48,43 +48,38 @@ impl<'a, F: RowFormat> Table<'a, F> {
             format: PhantomData,
         }
     }
+}
 
-    // The value of the first row of that name.
-    // A loop: the rows of an iterator would have to carry that they are sound, since names are asked of sound rows alone.
-    fn find(&self, name: &[u8]) -> Option<&'a [u8]>
-        ensures { option_copied result ≡ meaning F.format self.now.bytes.now name.now }
-    {
-        let mut rest = self.bytes;
-        while let Some(row) = F::next_row(rest) {
-            if F::name_of(row) == name {
-                return Some(F::value_of(row));
-            }
-            rest = &rest[row.len()..];
+// The value of the first row of that name, in any bytes.
+pub(crate) fn find<'a, F: RowFormat>(bytes: &'a [u8], name: &[u8]) -> Option<&'a [u8]>
+    ensures { option_copied result ≡ meaning F.format bytes.now name.now }
+{
+    let mut rest = bytes;
+    while let Some(row) = F::next_row(rest) {
+        if F::name_of(row) == name {
+            return Some(F::value_of(row));
         }
-        None
+        rest = &rest[row.len()..];
     }
+    None
+}
 
-    // Whether a row is sound and its name stands in none of the rows of this table.
-    fn is_fresh(&self, row: &[u8]) -> bool
-        ensures { result ≡ fresh F.format (rows F.format self.now.bytes.now) row.now }
-    {
-        F::is_sound(row) && self.find(F::name_of(row)).is_none()
-    }
+// Whether a row is sound and its name stands in none of the rows before it.
+fn is_fresh<F: RowFormat>(before: &[u8], row: &[u8]) -> bool
+    ensures { result ≡ fresh F.format (rows F.format before.now) row.now }
+{
+    F::is_sound(row) && find::<F>(before, F::name_of(row)).is_none()
 }
 
 // The first bad row, if any.
-// A loop: an iterator over rows would have to give their starts too, and the rows before.
+// A loop: an iterator over rows would have to give their starts too, and the bytes before.
 fn first_bad<F: RowFormat>(bytes: &[u8]) -> Option<BadRow>
     ensures { result ≡ bad_row F.format bytes.now }
 {
     let mut index = 0;
     let mut start = 0;
     while let Some(row) = F::next_row(&bytes[start..]) {
-        let before = Table::<F> {
-            bytes: &bytes[..start],
-            format: PhantomData,
-        };
-        if !before.is_fresh(row) {
+        if !is_fresh::<F>(&bytes[..start], row) {
             return Some(BadRow { index, start });
         }
         index += 1;
@@ -115,11 +110,11 @@ impl<'a, F: RowFormat> PropertySource for Table<'a, F> {
     ghost laws = { table_laws F.format F.laws (λ s. s.bytes.now) (λ s. s.sound) };
 
     fn value_len(&self, name: &[u8]) -> Option<usize> {
-        self.find(name).map(|value| value.len())
+        find::<F>(self.bytes, name).map(|value| value.len())
     }
 
     fn lay_value(&self, name: &[u8], area: &mut [u8]) {
-        if let Some(value) = self.find(name) {
+        if let Some(value) = find::<F>(self.bytes, name) {
             lay_bytes(value, area);
         }
     }

@@ -2,13 +2,7 @@ use Rattle.std.proofs.Common.{length, Some, sym, ap, ◌∙◌, subst, arith, le
 use Rattle.std.proofs.lemmas.List.{take_rest}
 use Rattle.std.specs.Str.{bytes_eq}
 use Rattle.tables.proofs.Looking.{Looking, look_hit, look_none, look_on, turn}
-use Rattle.tables.proofs.table.Table.find.Goals as goal
-
-pub name_of-requires : goal.name_of-requires
-name_of-requires g c = (turn g.F.RowFormat.laws c.loop-row.invariant c.in-Some.ensures).fit
-
-pub value_of-requires : goal.value_of-requires
-value_of-requires g c = (turn g.F.RowFormat.laws c.loop-row.invariant c.in-Some.ensures).fit
+use Rattle.tables.proofs.table.find.Goals as goal
 
 pub returns-then-eq : goal.returns-then-eq
 returns-then-eq g c =
@@ -33,7 +27,7 @@ pub loop-row-preserved : goal.loop-row-preserved
 loop-row-preserved g c =
     let t = turn g.F.RowFormat.laws c.loop-row.invariant c.in-Some.ensures in
     let other = sym c.eq.ensures ∙ c.if-eq.false in
-    subst (λ q. Looking g.F.RowFormat.format c.args.name.now c.args.self.now.bytes.now q) (sym (take_rest c.loop-row.rest.now (length c.in-Some.row.now)))
+    subst (λ q. Looking g.F.RowFormat.format c.args.name.now c.args.bytes.now q) (sym (take_rest c.loop-row.rest.now (length c.in-Some.row.now)))
     (look_on t (ap (λ n. bytes_eq n c.args.name.now) (sym c.name_of.ensures) ∙ other))
 
 pub returns : goal.returns
