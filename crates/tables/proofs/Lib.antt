@@ -3,3 +3,4 @@ mod Looking
 mod Checking
 mod Telling
 mod Placing
+mod Viewing

@@ -5,3 +5,5 @@ pub mod Books
 pub mod BookLaws
 pub mod Blocks
 pub mod BlockLaws
+pub mod Views
+pub mod ViewLaws

@@ -6,3 +6,4 @@ pub mod book;
 mod rows;
 mod scan;
 pub mod table;
+pub mod view;
