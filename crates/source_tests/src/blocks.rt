@@ -5,7 +5,11 @@ use std::test::Fail;
 use tables::block::{Block, check_block};
 
 // One entry with a name and a value of these lengths.
-fn entry(heap: Global, name_len: usize, value_len: usize) -> Result<Vec<u8>, AllocError> {
+pub(crate) fn entry(
+    heap: Global,
+    name_len: usize,
+    value_len: usize,
+) -> Result<Vec<u8>, AllocError> {
     let mut bytes = vec![in heap; b'N'; name_len]?;
     bytes.push(b'=')?;
     bytes.resize(bytes.len().saturating_add(value_len), b'v')?;

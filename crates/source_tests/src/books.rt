@@ -6,7 +6,7 @@ use tables::book::{Book, check_book};
 
 // Appends a record; a name of over 63 bytes or a value of over 191 makes it longer than a record is.
 // The zeros are pushed: `resize` would have to be told how long the book is then, which is no shorter.
-fn push_record(book: &mut Vec<u8>, name: &[u8], value: &[u8]) -> Result<(), AllocError> {
+pub(crate) fn push_record(book: &mut Vec<u8>, name: &[u8], value: &[u8]) -> Result<(), AllocError> {
     book.push((name.len() % 256) as u8)?;
     book.extend_from_slice(name)?;
     for _ in name.len()..63 {
@@ -31,7 +31,7 @@ fn numbered(heap: Global, n: u32) -> Result<Vec<u8>, AllocError> {
 }
 
 // The record `AB` with the value `12`, one byte of it replaced.
-fn patched(at: usize, byte: u8) -> [u8; 256] {
+pub(crate) fn patched(at: usize, byte: u8) -> [u8; 256] {
     let mut row = [0u8; 256];
     row[0] = 2;
     row[1] = b'A';

@@ -7,3 +7,5 @@ mod blocks;
 mod books;
 #[cfg(test)]
 mod layers;
+#[cfg(test)]
+mod views;
