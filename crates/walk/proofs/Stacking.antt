@@ -1,6 +1,7 @@
 -- The frames that are open, with one more on top.
 use Rattle.std.proofs.Common.{◌≡◌, ℕ, suc, ◌+◌, ◌-◌, ◌<◌, List, [], ◌∷◌, ◌++◌, length, Ok, Err, Option, Result, sym, ap, ◌∙◌, subst, ap₂, add-zero, zero-add, arith, length-append}
 use Rattle.stack.specs.declared.Stack.{Stack}
+use Rattle.std.proofs.lemmas.List.{length-map}
 use Rattle.stack.specs.Held.{held, memory}
 use Rattle.references.specs.declared.error.PropertyError.{PropertyError}
 use Rattle.source.specs.Shapes.{Shape, shapes}
@@ -8,6 +9,7 @@ use Rattle.walk.specs.declared.frame.ExpansionFrame.{ExpansionFrame}
 use Rattle.walk.specs.declared.state.Walk.{Walk}
 use Rattle.expansion.specs.Events.{Event}
 use Rattle.walk.specs.Frames.{Aim, Nests, Reached, completed, frame_events, moved, part, rest}
+use Rattle.walk.specs.Slots.{open_frames}
 use Rattle.walk.specs.Stacks.{Fit, Runs, Sound, Sound1, Turned, Turns, events_at, left, pending}
 use Rattle.walk.proofs.Reaching.{reach_less, reach_same}
 
@@ -123,7 +125,11 @@ pub turns_by : {text : List ℕ} {slots : ℕ} {xs ys : List ExpansionFrame} (r 
 turns_by (Ok x) h = h
 turns_by (Err e) h = tt
 
+-- as many slots are in use as frames are open
+pub slot_each : {F : Type 0} (kept : F → ExpansionFrame) (s : Stack F) → length (held s) ≡ length (open_frames kept s)
+slot_each kept s = sym (length-map (held s) kept)
+
 -- the frames before were walked on, to those after
-pub record Walked (means : List ℕ → Option (List ℕ)) (deep : ℕ) (text : List ℕ) (frames : Stack ExpansionFrame) (before : Walk) (frames' : Stack ExpansionFrame) (after : Walk) : Type 0 where
-  pub fit : Fit text (length (memory frames')) (held frames')
-  pub goes : Runs means deep text (held frames) before (held frames') after (Ok tt)
+pub record Walked {F : Type 0} (kept : F → ExpansionFrame) (means : List ℕ → Option (List ℕ)) (deep : ℕ) (text : List ℕ) (frames : Stack F) (before : Walk) (frames' : Stack F) (after : Walk) : Type 0 where
+  pub fit : Fit text (length (memory frames')) (open_frames kept frames')
+  pub goes : Runs means deep text (open_frames kept frames) before (open_frames kept frames') after (Ok tt)

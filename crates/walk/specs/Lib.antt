@@ -2,3 +2,4 @@ pub mod Frames
 pub mod Stacks
 pub mod Endings
 pub mod Outcomes
+pub mod Slots

@@ -11,9 +11,9 @@ ghost use Rattle.walk.specs.Endings.{Settles, answer_fit, answer_kept, has_text}
 ghost use Rattle.walk.specs.declared.interpolate.InterpolateError.TheVariants.{OutputTooShort as ShortRefusal, Refused};
 ghost use Rattle.walk.specs.Outcomes.{call_told, call_total, frames_needed, told_by, total_left, walk_of};
 
-use crate::frame::ExpansionFrame;
 use crate::frames::walk_text;
 use crate::marks::Marks;
+use crate::slot::FrameSlot;
 use crate::state::{Given, Walk};
 use answers::{Answer, OutputTooShort};
 use budget::{WorkBudget, WorkFault};
@@ -101,12 +101,12 @@ fn answer(
 }
 
 // Walks a text whose first `$` is at `first`.
-fn expand_text<S: PropertySource>(
+fn expand_text<S: PropertySource, F: FrameSlot>(
     given: &Given<'_, S>,
     first: usize,
     syntax: PropertySyntax,
     work: &mut WorkBudget,
-    frames: &mut [ExpansionFrame],
+    frames: &mut [F],
     area: &mut [u8],
 ) -> Result<Answer, InterpolateError>
     requires small { length given.now.text.now ≤ text_max }
@@ -152,13 +152,13 @@ pub fn frames_needed(n: usize) -> usize
 
 // Replaces the references in a text by what the source and the syntax say.
 #[tactic(auto, using(expansion::proofs::AllLaws::walk_laws, expansion::proofs::TrialLaws::trials))]
-pub fn interpolate_compose_style_with_limits<S: PropertySource>(
+pub fn interpolate_compose_style_with_limits<S: PropertySource, F: FrameSlot>(
     text: &[u8],
     source: &S,
     syntax: PropertySyntax,
     max_nested_expansions: usize,
     work: &mut WorkBudget,
-    frames: &mut [ExpansionFrame],
+    frames: &mut [F],
     area: &mut [u8],
 ) -> Result<Answer, InterpolateError>
     ensures answer { result ≡ answer_of (call_told (values (S.PropertySource.means source.now)) (length text.now) (length frames.old) (length area.old) (walk_of (S.PropertySource.means source.now) syntax max_nested_expansions work.old text.now)) }

@@ -6,5 +6,7 @@ pub mod frame;
 mod frames;
 pub mod interpolate;
 mod marks;
+pub mod record;
+pub mod slot;
 mod state;
 mod step;

@@ -1,8 +1,8 @@
 use Rattle.std.proofs.Common.{◌≡◌, ◌+◌, [], ◌∷◌, sym, subst, arith, rules}
 use Rattle.std.proofs.lemmas.Result.{err_from_is_err_and}
-use Rattle.stack.specs.Held.{held}
 use Rattle.source.specs.Shapes.{shapes}
 use Rattle.walk.specs.Frames.{Reached, worked}
+use Rattle.walk.specs.Slots.{open_frames}
 use Rattle.walk.specs.Stacks.{left, pending}
 use Rattle.walk.proofs.Reaching.{reach_charge, reach_less, reach_same, stop_charge}
 use Rattle.walk.proofs.Starting.{begins_walked, root_events, root_frame}
@@ -21,7 +21,7 @@ returns g c =
     let m = g.S.PropertySource.means c.args.given.now.source.now in
     let text = c.args.given.now.text.now in
     let s = c.args.syntax in
-    let one : held c.push.new.self ≡ root_frame s text ∷ [] = search rules in
+    let one : open_frames g.F.FrameSlot.kept c.push_frame.new.frames ≡ root_frame s text ∷ [] = search rules in
     λ aim r.
     let at = reach_charge (c.args.first + 1) e.work e.says (reach_same (begins_walked (shapes m) s text c.args.first c.requires.place) r) in
     let in-root = reach_less (left (root_frame s text ∷ [])) (omega arith) (reach_same (root_events (shapes m) s text) at) in
