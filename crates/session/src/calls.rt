@@ -16,8 +16,8 @@ use names::PropertySyntax;
 use pairs::record::PairRecord;
 use scopes::marks::RedactionMarks;
 use source::source::PropertySource;
-use walk::frame::ExpansionFrame;
 use walk::interpolate::interpolate_compose_style_with_limits;
+use walk::slot::FrameSlot;
 
 // A key that is checked, and has no references.
 fn leave_key(text: &[u8], frames: usize, sound: bool, area: &mut [u8]) -> Result<Answer, CallError>
@@ -47,11 +47,11 @@ impl<S: PropertySource> PropertyInterpolation<S> {
     }
 
     // Walks a text that was checked, and notes its pair.
-    fn walk(
+    fn walk<F: FrameSlot>(
         &mut self,
         text: &[u8],
         marks: &mut RedactionMarks,
-        frames: &mut [ExpansionFrame],
+        frames: &mut [F],
         records: &mut [PairRecord],
         bytes: &mut [u8],
         area: &mut [u8],
@@ -71,11 +71,11 @@ impl<S: PropertySource> PropertyInterpolation<S> {
     }
 
     // Checks a text, and walks it.
-    fn walk_checked(
+    fn walk_checked<F: FrameSlot>(
         &mut self,
         text: &[u8],
         marks: &mut RedactionMarks,
-        frames: &mut [ExpansionFrame],
+        frames: &mut [F],
         records: &mut [PairRecord],
         bytes: &mut [u8],
         area: &mut [u8],
@@ -89,11 +89,11 @@ impl<S: PropertySource> PropertyInterpolation<S> {
     }
 
     // Checks a key, and walks it, but for DockerCompose.
-    fn walk_key(
+    fn walk_key<F: FrameSlot>(
         &mut self,
         text: &[u8],
         marks: &mut RedactionMarks,
-        frames: &mut [ExpansionFrame],
+        frames: &mut [F],
         records: &mut [PairRecord],
         bytes: &mut [u8],
         area: &mut [u8],
@@ -112,11 +112,11 @@ impl<S: PropertySource> PropertyInterpolation<S> {
     }
 
     // The key with its references replaced. Under DockerCompose a key has none.
-    pub fn interpolate_key(
+    pub fn interpolate_key<F: FrameSlot>(
         &mut self,
         text: &[u8],
         marks: &mut RedactionMarks,
-        frames: &mut [ExpansionFrame],
+        frames: &mut [F],
         records: &mut [PairRecord],
         bytes: &mut [u8],
         area: &mut [u8],
@@ -132,11 +132,11 @@ impl<S: PropertySource> PropertyInterpolation<S> {
     }
 
     // The value with its references replaced. As `interpolate_key`: one function for both would take the walk as a closure, and ask for it in a clause as long as these lines.
-    pub fn interpolate_value(
+    pub fn interpolate_value<F: FrameSlot>(
         &mut self,
         text: &[u8],
         marks: &mut RedactionMarks,
-        frames: &mut [ExpansionFrame],
+        frames: &mut [F],
         records: &mut [PairRecord],
         bytes: &mut [u8],
         area: &mut [u8],
