@@ -11,6 +11,7 @@ use source::source::Empty;
 use std::test::Fail;
 use tables::block::Block;
 use walk::frame::ExpansionFrame;
+use walk::record::FrameRecord;
 
 // A text with the password goes out; what is said of it is shown without the password.
 #[test]
@@ -132,4 +133,45 @@ fn breach_is_kept(rt: HostRuntime) {
         Some(BudgetBreach::PropertyExpansionDepth(1, 0))
     );
     assert_eq!(rt; session.total_work(), 21);
+}
+
+// Frames lent as plain numbers: text that is walked in text, and a message with its name.
+#[test]
+fn frames_as_numbers(rt: HostRuntime) -> Result<(), Fail> {
+    let source = Block::new(b"E=\0C=12\0");
+    let mut session = PropertyInterpolation::new(source, PropertySyntax::Braced, 8, 1000);
+    let mut frames = [FrameRecord::EMPTY; 4];
+    let mut records = [PairRecord::EMPTY; 1];
+    let mut bytes = [0u8; 32];
+    let mut area = [0u8; 8];
+    let mut marks = RedactionMarks::new();
+
+    let text = b"${A:-a${B:-b${C}}}";
+    let answer = session.interpolate_value(
+        text,
+        &mut marks,
+        &mut frames,
+        &mut records,
+        &mut bytes,
+        &mut area,
+    )?;
+    assert!(rt; answer.text(text, &area) == b"ab12".as_slice());
+
+    let refused = session.interpolate_value(
+        b"${E:?no ${D:-d}}",
+        &mut marks,
+        &mut frames,
+        &mut records,
+        &mut bytes,
+        &mut area,
+    );
+    assert_eq!(rt;
+        refused,
+        Err(ValueError(CallError::Property(PropertyError::RequiredButEmpty(
+            Span { start: 2, end: 3 },
+            4
+        ))))
+    );
+    assert!(rt; area == *b"no d\0\0\0\0");
+    Ok(())
 }

@@ -6,8 +6,21 @@ use std::process::Abort;
 use tables::block::Block;
 use walk::frame::ExpansionFrame;
 use walk::interpolate::{InterpolateError, interpolate_compose_style_with_limits};
+use walk::record::FrameRecord;
+use walk::slot::FrameSlot;
 
-// Walks a text into an area of eight bytes, and tells whether answer, area and work total are these.
+// Frame memory as a caller may lend it: any numbers.
+const USED: FrameRecord = FrameRecord {
+    start: usize::MAX,
+    cursor: 7,
+    end: 3,
+    name_start: 9,
+    name_end: 1,
+    syntax: u32::MAX,
+    completion: 5,
+};
+
+// Walks a text into an area of eight bytes, and tells whether answer, area and work total are these, in both kinds of frame memory.
 fn walks(
     rt: &impl Abort,
     text: &[u8],
@@ -18,18 +31,48 @@ fn walks(
     area: &[u8],
     total: usize,
 ) {
-    let mut out = [9u8; 8];
     let mut frames = [ExpansionFrame::EMPTY; 4];
+    walks_in(
+        rt,
+        &mut frames,
+        text,
+        syntax,
+        depth,
+        limit,
+        answer,
+        area,
+        total,
+    );
+    let mut records = [USED; 4];
+    walks_in(
+        rt,
+        &mut records,
+        text,
+        syntax,
+        depth,
+        limit,
+        answer,
+        area,
+        total,
+    );
+}
+
+fn walks_in<F: FrameSlot>(
+    rt: &impl Abort,
+    frames: &mut [F],
+    text: &[u8],
+    syntax: PropertySyntax,
+    depth: usize,
+    limit: usize,
+    answer: Result<Answer, InterpolateError>,
+    area: &[u8],
+    total: usize,
+) {
+    let mut out = [9u8; 8];
     let mut work = WorkBudget { total: 0, limit };
     let source = Block::new(b"E=\0C=12\0");
     let r = interpolate_compose_style_with_limits(
-        text,
-        &source,
-        syntax,
-        depth,
-        &mut work,
-        &mut frames,
-        &mut out,
+        text, &source, syntax, depth, &mut work, frames, &mut out,
     );
     assert_eq!(rt; r, answer);
     assert!(rt; &out[..] == area);
