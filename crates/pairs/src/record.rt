@@ -6,6 +6,7 @@ use crate::pair::Pair;
 
 // Where a pair lies in the pair bytes: the text begins at `at`, and the result follows it.
 // Numbers, and no slices: the pair bytes are lent anew to each call.
+#[repr(C)]
 #[derive(Clone, Copy, PartialEq, Eq, Debug)]
 pub struct PairRecord {
     pub at: usize,

@@ -1,5 +1,5 @@
 ghost use Rattle.std.specs.Prelude.{◌≡◌, length, None};
-ghost use Rattle.session.specs.Sessions.{made};
+ghost use Rattle.session.specs.Sessions.{made, with_breach, with_total};
 
 use crate::breach::BudgetBreach;
 use budget::WorkBudget;
@@ -36,6 +36,20 @@ impl<S: PropertySource> PropertyInterpolation<S> {
                 limit: max_total_work,
             },
             breach: None,
+        }
+    }
+
+    // The session with work done and a limit passed before: as one that was kept elsewhere stood.
+    pub fn resume(self, total_work: usize, breach: Option<BudgetBreach>) -> Self
+        ensures { result ≡ with_breach (with_total self total_work) breach }
+    {
+        PropertyInterpolation {
+            work: WorkBudget {
+                total: total_work,
+                limit: self.work.limit,
+            },
+            breach,
+            ..self
         }
     }
 
