@@ -1,0 +1,9 @@
+use Rattle.std.proofs.Common.{rules, ap, ◌∙◌}
+use Rattle.dollar.specs.Outcomes.{key_told}
+use Rattle.dollar.proofs.ToldLaws.{key_told_as}
+use Rattle.dollar.proofs.calls.dollar_key.Goals as goal
+
+pub returns-clause-outcome : goal.returns-clause-outcome
+returns-clause-outcome c =
+    let told = c.told_key.ensures ∙ ap key_told c.interpolate_key-answer.ensures.answer ∙ key_told_as _ in
+    search rules

@@ -1,0 +1,7 @@
+pub mod Calls
+pub mod Held
+pub mod Opening
+pub mod Outcomes
+pub mod Reading
+pub mod Seen
+pub mod Tables
