@@ -1,44 +1,17 @@
 -- The places of the matches, from one match to the next. Assumes nothing.
-use Rattle.std.proofs.Common.{◌≡◌, ℕ, zero, suc, ◌+◌, ◌-◌, ◌<◌, ◌≤◌, Bool, true, false, cond, ◌&&◌, leb, List, [], ◌∷◌, length, take, drop, Some, None, Option, sym, refl, ap, ◌∙◌, subst, arith}
+use Rattle.std.proofs.Common.{◌≡◌, ℕ, zero, suc, ◌+◌, ◌-◌, ◌<◌, ◌≤◌, Bool, true, false, cond, ◌&&◌, List, [], ◌∷◌, length, take, drop, Some, None, Option, sym, refl, ap, ◌∙◌, arith, length-drop}
 use Rattle.std.proofs.lemmas.List.{length-take}
-use Rattle.std.proofs.lemmas.Bool.{cond-true, cond-false, leb-false, lt-ltb, lt-leb, le-leb}
+use Rattle.std.proofs.lemmas.Bool.{lt-ltb}
 use Rattle.std.proofs.lemmas.Bool.Decides.{same_from_decides}
 use Rattle.std.proofs.lemmas.Slice.Eq.{bytes_eq-Decides}
-use Rattle.std.proofs.lemmas.Iterator.{YieldsList}
-use Rattle.std.proofs.lemmas.Iterator.Splits.{YieldsList-from_shown_while}
-use Rattle.std.specs.List.{position_from, slice_get}
-use Rattle.std.specs.Slice.Iter.{windows_rest, windows_size, windows_steps}
+use Rattle.std.specs.List.{slice_get}
 use Rattle.std.specs.Str.{bytes_eq}
+use Rattle.memchr.specs.Find.{FindsNeedle, OccursAt}
+use Rattle.memchr.proofs.lemmas.MatchLemmas.{OccursAt-from_part, OccursAt-part}
 use Rattle.matches.specs.declared.matching.Matches.{Matches}
 use Rattle.matches.specs.declared.matching.Matches.TheVariants.{Often, Once}
 use Rattle.matches.specs.Kinds.{kind_of}
 use Rattle.matches.specs.Places.{places, spots, starts}
-
--- the parts of k bytes that `windows` gives
-abbrev pub parts : ℕ → List ℕ → List (List ℕ)
-parts k [] = []
-parts k (b ∷ bs) = cond (leb k (length (b ∷ bs))) (take k (b ∷ bs) ∷ parts k bs) []
-
-parts_none : (k : ℕ) (bs : List ℕ) → length bs < k → parts k bs ≡ []
-parts_none k [] h = refl
-parts_none k (b ∷ bs) h = cond-false _ _ _ (lt-leb k (length (b ∷ bs)) h)
-
-parts_some : (k : ℕ) (bs : List ℕ) → 0 < k → k ≤ length bs → parts k bs ≡ take k bs ∷ parts k (drop 1 bs)
-parts_some k [] some h = absurd (omega arith)
-parts_some k (b ∷ bs) some h = cond-true _ _ _ (le-leb k (length (b ∷ bs)) h)
-
-pub gives_parts : {s : _} (n bs : List ℕ) → 0 < length n → windows_size s ≡ length n → windows_rest s ≡ bs → YieldsList (windows_steps {A = ℕ}) (λ w. w.now) s (parts (length n) bs)
-gives_parts {s} n bs some size rest =
-    subst (YieldsList (windows_steps {A = ℕ}) (λ w. w.now) s) (ap (λ k. parts k (windows_rest s)) size ∙ ap (parts (length n)) rest)
-    (YieldsList-from_shown_while (windows_steps {A = ℕ}) (λ w. w.now) (λ t. parts (windows_size t) (windows_rest t)) (λ t. 0 < windows_size t)
-    (λ t u h st. ap length (parts_none (windows_size t) (windows_rest t) st.1.0))
-    (λ t w u h st. (
-      omega arith,
-      parts_some (windows_size t) (windows_rest t) h st.1.0
-          ∙ ap (λ p. p ∷ parts (windows_size t) (drop 1 (windows_rest t))) (sym st.1.1)
-          ∙ ap (λ r. w.now ∷ parts (windows_size t) r) (sym st.1.2)
-          ∙ ap (λ k. w.now ∷ parts k (windows_rest u)) (sym st.0),
-    )) s (omega arith))
 
 bytes_eq_sym : (xs ys : List ℕ) → bytes_eq xs ys ≡ bytes_eq ys xs
 bytes_eq_sym xs ys =
@@ -49,32 +22,43 @@ bytes_eq_sym xs ys =
 starts_is : (n bs : List ℕ) → 0 < length n → starts n bs ≡ bytes_eq (take (length n) bs) n
 starts_is n bs some = ap (λ b. b && bytes_eq n (take (length n) bs)) (lt-ltb 0 (length n) some) ∙ bytes_eq_sym n (take (length n) bs)
 
--- too few bytes for it
-not_short : (n bs : List ℕ) → length bs < length n → bytes_eq (take (length n) bs) n ≡ true → ⊥
-not_short n bs h e =
-    let same : length (take (length n) bs) ≡ length n = ap length ((bytes_eq-Decides (take (length n) bs) n).0 e) in
-    omega (arith, length-take (length n) bs)
-
 module _ (n : List ℕ) (some : 0 < length n) where
-  -- the first match is the first part that is the needle
-  pub first_part : (i : ℕ) (bs : List ℕ) → slice_get (spots n 0 i bs) 0 ≡ position_from (λ w. bytes_eq w n) i (parts (length n) bs)
-  first_part i [] = refl
-  first_part i (b ∷ bs) = go (first_part (i + 1) bs) (leb (length n) (length (b ∷ bs))) refl (bytes_eq (take (length n) (b ∷ bs)) n) refl
+  -- the needle stands at a place where the library finds it, and nowhere else
+  stands : (text : List ℕ) (k : ℕ) → OccursAt text n k → starts n (drop k text) ≡ true
+  stands text k h = starts_is n (drop k text) some ∙ (bytes_eq-Decides _ n).1 (OccursAt-part text n k h)
+
+  stands_not : (text : List ℕ) (k : ℕ) → (OccursAt text n k → ⊥) → starts n (drop k text) ≡ false
+  stands_not text k h = go (bytes_eq (take (length n) (drop k text)) n) refl
     where
-      test : List ℕ → Bool
-      test w = bytes_eq w n
+      go : (c : Bool) → bytes_eq (take (length n) (drop k text)) n ≡ c → starts n (drop k text) ≡ false
+      go false e = starts_is n (drop k text) some ∙ e
+      go true e =
+          let same : take (length n) (drop k text) ≡ n = (bytes_eq-Decides (take (length n) (drop k text)) n).0 e in
+          let fits : k + length n ≤ length text = omega (arith, ap length same, length-take (length n) (drop k text), length-drop k text) in
+          absurd (h (OccursAt-from_part text n k fits same))
 
-      head : (d : Bool) → bytes_eq (take (length n) (b ∷ bs)) n ≡ d → spots n 0 i (b ∷ bs) ≡ cond d (i ∷ spots n (length n - 1) (i + 1) bs) (spots n 0 (i + 1) bs)
-      head d e = ap (λ c. cond c (i ∷ spots n (length n - 1) (i + 1) bs) (spots n 0 (i + 1) bs)) (starts_is n (b ∷ bs) some ∙ e)
+  -- Here i is the place of the first byte. The needle stands at none of them.
+  none_there : (i : ℕ) (bs : List ℕ) → ((k : ℕ) → k < length bs → starts n (drop k bs) ≡ false) → slice_get (spots n 0 i bs) 0 ≡ None
+  none_there i [] h = refl
+  none_there i (b ∷ bs) h =
+      ap (λ c. slice_get (cond c (i ∷ spots n (length n - 1) (i + 1) bs) (spots n 0 (i + 1) bs)) 0) (h 0 (omega arith))
+      ∙ none_there (i + 1) bs (λ k l. h (suc k) (omega arith))
 
-      go : slice_get (spots n 0 (i + 1) bs) 0 ≡ position_from test (i + 1) (parts (length n) bs) → (c : Bool) → leb (length n) (length (b ∷ bs)) ≡ c → (d : Bool) → bytes_eq (take (length n) (b ∷ bs)) n ≡ d →
-          slice_get (spots n 0 i (b ∷ bs)) 0 ≡ position_from test i (cond c (take (length n) (b ∷ bs) ∷ parts (length n) bs) [])
-      go more true h true e = ap (λ ps. slice_get ps 0) (head true e) ∙ sym (cond-true _ _ _ e)
-      go more true h false e = ap (λ ps. slice_get ps 0) (head false e) ∙ more ∙ sym (cond-false _ _ _ e)
-      go more false h true e = absurd (not_short n (b ∷ bs) (leb-false (length n) (length (b ∷ bs)) h) e)
-      go more false h false e =
-          let low : length bs < length n = omega (arith, leb-false (length n) (length (b ∷ bs)) h) in
-          ap (λ ps. slice_get ps 0) (head false e) ∙ more ∙ ap (position_from test (i + 1)) (parts_none (length n) bs low)
+  -- the needle stands at byte k, and at none before it
+  first_there : (i : ℕ) (bs : List ℕ) (k m : ℕ) → m ≡ i + k → k < length bs → ((j : ℕ) → j < k → starts n (drop j bs) ≡ false) → starts n (drop k bs) ≡ true → slice_get (spots n 0 i bs) 0 ≡ Some m
+  first_there i [] k m e l h p = absurd (omega arith)
+  first_there i (b ∷ bs) zero m e l h p =
+      ap (λ c. slice_get (cond c (i ∷ spots n (length n - 1) (i + 1) bs) (spots n 0 (i + 1) bs)) 0) p ∙ ap Some (omega arith)
+  first_there i (b ∷ bs) (suc k) m e l h p =
+      ap (λ c. slice_get (cond c (i ∷ spots n (length n - 1) (i + 1) bs) (spots n 0 (i + 1) bs)) 0) (h 0 (omega arith))
+      ∙ first_there (i + 1) bs k m (omega arith) (omega arith) (λ j q. h (suc j) (omega arith)) p
+
+  -- the first match is what the library finds
+  pub first_is : (text : List ℕ) (r : Option ℕ) → FindsNeedle text n 0 r → r ≡ slice_get (places n text) 0
+  first_is text None h = sym (none_there 0 text (λ k l. stands_not text k (h k (omega arith) (omega arith))))
+  first_is text (Some k) h =
+      let fits = h.1.fits in
+      sym (first_there 0 text k k (omega arith) (omega arith) (λ j l. stands_not text j (h.0.before j (omega arith) l)) (stands text k h.1))
 
   -- a place that is named later, or a match that is left out, changes no count
   same_count : (k i j : ℕ) (bs : List ℕ) → length (spots n k i bs) ≡ length (spots n k j bs)

@@ -3,6 +3,8 @@ ghost use Rattle.std.specs.List.{slice_get};
 ghost use Rattle.matches.specs.Kinds.{Inside, kind_of};
 ghost use Rattle.matches.specs.Places.{places, starts};
 
+use memchr::memmem;
+
 // How often a needle stands in a text. These are three ways, so it is no Option.
 #[derive(Clone, Copy, PartialEq, Eq, Debug)]
 pub enum Matches {
@@ -21,7 +23,7 @@ pub fn find_match(text: &[u8], needle: &[u8]) -> Option<usize>
     if needle.is_empty() {
         return None;
     }
-    text.windows(needle.len()).position(|part| part == needle)
+    memmem::find(text, needle)
 }
 
 // Whether the needle stands in the text nowhere, once or more often: from the left, and no two matches overlap.
