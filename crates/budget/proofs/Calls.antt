@@ -93,3 +93,19 @@ module _ {w₀ w : WorkBudget} {ks : List ℕ} where
         says = e ∙ ap (λ l. ending (works w js) l y) p.limit ∙ sym (ap (λ a. ending a w₀.limit y) p.work);
         work = h ∙ ap (λ l. record { total = total_of (works w js); limit = l }) p.limit ∙ sym (ap (λ a. record { total = total_of a; limit = w₀.limit }) p.work);
       }
+
+-- What is charged first and answered then: the answer stands where all is taken, and the refusal is the charges' own.
+module _ {X : Type 0} (w : WorkBudget) (ks : List ℕ) (y : X) where
+  pub all_taken : {x : Unit {0}} → Ok x ≡ paid w ks tt → Ok y ≡ paid w ks y
+  all_taken {x} e = go (works w ks) e
+    where
+      go : (v : Work) → Ok x ≡ ending v w.limit tt → Ok y ≡ ending v w.limit y
+      go (taken t) e = refl
+      go (over t) e = absurd (cc)
+
+  pub one_refused : {f : WorkFault} → Err f ≡ paid {X = Unit {0}} w ks tt → Err f ≡ paid w ks y
+  one_refused {f} e = go (works w ks) e
+    where
+      go : (v : Work) → Err f ≡ ending {X = Unit {0}} v w.limit tt → Err f ≡ ending v w.limit y
+      go (taken t) e = absurd (cc)
+      go (over t) e = cc

@@ -1,2 +1,3 @@
 pub mod ChargeLaws
 pub mod Calls
+pub mod OnesLaws

@@ -1,6 +1,6 @@
 #![tactic(auto)]
 
-ghost use Rattle.std.specs.Prelude.{◌≡◌, [], ◌∷◌};
+ghost use Rattle.std.specs.Prelude.{◌≡◌, [], ◌∷◌, replicate};
 ghost use Rattle.budget.specs.Charges.{paid, spent};
 ghost use Rattle.budget.specs.Laws.{ChargeLaws};
 
@@ -36,5 +36,25 @@ impl WorkBudget {
             });
         }
         Ok(())
+    }
+
+    // Charges one, `count` times: in one step where none of them is refused, else up to the first that is.
+    #[tactic(auto, using(crate::proofs::OnesLaws::ones_taken, crate::proofs::OnesLaws::ones_over))]
+    pub fn charge_ones(&mut self, count: usize) -> Result<(), WorkFault>
+        ensures says { result ≡ paid self.old (replicate count 1) tt }
+        ensures work { self.new ≡ spent self.old (replicate count 1) }
+    {
+        let limit = self.limit;
+        let total = self.total.saturating_add(count);
+        if count == 0 || total <= limit {
+            self.total = total;
+            return Ok(());
+        }
+        let refused = self.total.max(limit).saturating_add(1);
+        self.total = refused;
+        Err(WorkFault {
+            work: refused,
+            limit,
+        })
     }
 }

@@ -1,27 +1,51 @@
-ghost use Rattle.std.specs.Prelude.{◌≡◌};
+ghost use Rattle.std.specs.Prelude.{◌≡◌, ℕ, ◌<◌, List, length, replicate, IfSome};
 ghost use Rattle.budget.specs.Charges.{paid, spent};
 ghost use Rattle.closes.specs.Braced.{braced_close, braced_looks};
 
 use crate::fronts::opens_inner;
 use budget::{WorkBudget, WorkFault};
+use memchr::memchr;
 
 // The place of the `}` that leaves no inner `${` open.
-// Each byte is charged before it is looked at, so this is a loop and no chain of iterators.
-pub fn find_balanced_close(body: &[u8], work: &mut WorkBudget) -> Result<Option<usize>, WorkFault>
-    ensures says { result ≡ paid work.old (braced_looks body.now) (braced_close body.now) }
-    ensures work { work.new ≡ spent work.old (braced_looks body.now) }
+// Without a `}` the search ends at once: texts with many `${` and no close would take long else.
+#[tactic(auto, using(crate::proofs::BracedLaws::closeless))]
+fn balanced_close(body: &[u8]) -> Option<usize>
+    ensures says { result ≡ braced_close body.now }
+    ensures within { IfSome result (λ k. k < length body.now) }
 {
+    memchr(b'}', body)?;
     let mut depth = 0usize;
     for (i, &byte) in body.iter().enumerate() {
-        work.charge(1)?;
         if byte == b'}' {
             if depth == 0 {
-                return Ok(Some(i));
+                return Some(i);
             }
             depth -= 1;
         } else if opens_inner(byte, &body[i + 1..]) {
             depth += 1;
         }
     }
-    Ok(None)
+    None
+}
+
+// How many bytes a search looks at that found this close: those up to it, or all.
+#[tactic(auto, using(crate::proofs::BracedLaws::looks_found, crate::proofs::BracedLaws::looks_none))]
+fn looks(len: usize, close: Option<usize>) -> usize
+    requires { IfSome close (λ at. at < len) }
+    ensures { (body : List ℕ) → length body ≡ len → close ≡ braced_close body → replicate result 1 ≡ braced_looks body }
+{
+    match close {
+        Some(at) => at + 1,
+        None => len,
+    }
+}
+
+// The close, once each byte up to it is charged. The charges follow from its place, so that one step takes them all.
+pub fn find_balanced_close(body: &[u8], work: &mut WorkBudget) -> Result<Option<usize>, WorkFault>
+    ensures says { result ≡ paid work.old (braced_looks body.now) (braced_close body.now) }
+    ensures work { work.new ≡ spent work.old (braced_looks body.now) }
+{
+    let close = balanced_close(body);
+    work.charge_ones(looks(body.len(), close))?;
+    Ok(close)
 }

@@ -1,35 +1,27 @@
-use Rattle.std.proofs.Common.{Err, ap, ◌∙◌}
+use Rattle.std.proofs.Common.{Ok, Err, refl, ap, ◌∙◌}
 use Rattle.std.proofs.lemmas.Result.{err_from_is_err_and}
-use Rattle.budget.proofs.Calls.{went, broke}
-use Rattle.closes.proofs.BracedLaws.{Steps, balancing_on, closing, less, more, same}
-use Rattle.closes.proofs.SearchLaws.{scan_ends, scan_over, scan_none}
+use Rattle.budget.specs.Charges.{paid, spent}
+use Rattle.budget.proofs.Calls.{all_taken, one_refused}
+use Rattle.closes.specs.Braced.{braced_close, braced_looks}
 use Rattle.closes.proofs.braced.find_balanced_close.Goals as goal
-use Rattle.closes.proofs.braced.find_balanced_close.Goals.{then-byte-eq125+else-depth-eq0, else-byte-eq125+then-opens_inner, else-byte-eq125+else-opens_inner}
 
-pub returns-in_err-charge : goal.returns-in_err-charge
-returns-in_err-charge c =
-    let e = c.in_err-charge.ensures in
+pub returns-in_err-charge_ones : goal.returns-in_err-charge_ones
+returns-in_err-charge_ones c =
+    let w = c.args.work.now in
+    let bs = c.args.body.now in
+    let ones = c.looks.ensures bs refl c.balanced_close-close.ensures.says in
     let p = err_from_is_err_and c.from_residual.result c.from_residual.ensures.1 in
-    let o = scan_over c.loop-i.invariant.scan c.loop-i-test.true (broke _ _ _ e.work tt e.says) in
-    record { says = p.1 ∙ ap Err p.2 ∙ o.says; work = o.work }
-
-pub returns-then-depth-eq0 : goal.returns-then-depth-eq0
-returns-then-depth-eq0 c =
-    let e = c.in_ok-charge.ensures in
-    let o = scan_ends c.loop-i.invariant.scan c.loop-i-test.true (went _ _ _ e.work tt e.says).0 (closing _ _ _ c.if-byte-eq125.true c.if-depth-eq0.true) in
-    record { says = o.says; work = o.work }
-
-pub loop-i-preserved : goal.loop-i-preserved
-loop-i-preserved c =
-    let e = c.in_ok-charge.ensures in
-    let l = c.loop-i in
-    let on : Steps c.args.body.now l.depth l.i c.if-byte-eq125.depth
-    = elim c.if-byte-eq125.branch [
-      | then-byte-eq125+else-depth-eq0 w ↦ less _ _ _ w.if-byte-eq125.true w.if-depth-eq0.false w.depth-is
-      | else-byte-eq125+then-opens_inner w ↦ more _ _ _ w.if-byte-eq125.false w.if-opens_inner.ensures w.depth-is
-      | else-byte-eq125+else-opens_inner w ↦ same _ _ _ w.if-byte-eq125.false w.if-opens_inner.ensures w.depth-is
-    ] in
-    balancing_on l.invariant c.loop-i-test.true (went _ _ _ e.work tt e.says).0 on
+    record {
+      says = p.1 ∙ ap Err p.2 ∙ one_refused w (braced_looks bs) (braced_close bs) (c.in_err-charge_ones.ensures.says ∙ ap (λ ks. paid w ks tt) ones);
+      work = c.charge_ones.ensures.work ∙ ap (spent w) ones;
+    }
 
 pub returns : goal.returns
-returns c = let o = scan_none c.loop-i.invariant.scan c.loop-i-test.false in record { says = o.says; work = o.work }
+returns c =
+    let w = c.args.work.now in
+    let bs = c.args.body.now in
+    let ones = c.looks.ensures bs refl c.balanced_close-close.ensures.says in
+    record {
+      says = ap Ok c.balanced_close-close.ensures.says ∙ all_taken w (braced_looks bs) (braced_close bs) (c.in_ok-charge_ones.ensures.says ∙ ap (λ ks. paid w ks tt) ones);
+      work = c.charge_ones.ensures.work ∙ ap (spent w) ones;
+    }

@@ -1,5 +1,0 @@
-use Rattle.closes.proofs.BracedLaws.{Balancing}
-use Rattle.closes.proofs.braced.find_balanced_close.Given as goal
-
-abbrev pub invariant-loop-i : goal.invariant-loop-i
-invariant-loop-i l = Balancing l.body l.initial.work l.work l.depth l.i
