@@ -1,5 +1,6 @@
 pub mod Runs
 pub mod Reaching
+pub mod Passing
 pub mod Choosing
 pub mod ActLaws
 pub mod Framing

@@ -1,5 +1,5 @@
 -- A walk goes on: what each event makes of what it has reached.
-use Rattle.std.proofs.Common.{◌≡◌, ℕ, ◌+◌, ◌^◌, ◌<◌, ◌≤◌, true, false, ◌||◌, List, [], ◌∷◌, ◌++◌, length, Some, Ok, Err, Option, Result, sym, refl, ap, ◌∙◌, subst, append-nil, arith, MutBor}
+use Rattle.std.proofs.Common.{◌≡◌, ℕ, ◌+◌, ◌^◌, ◌<◌, ◌≤◌, Bool, true, false, ◌||◌, List, [], ◌∷◌, ◌++◌, length, Some, Ok, Err, Option, Result, sym, refl, ap, ◌∙◌, subst, append-nil, arith, MutBor}
 use Rattle.std.proofs.Math.Bool.{or-false}
 use Rattle.std.proofs.lemmas.Bool.{cond-true, cond-false, le-ltb, lt-ltb}
 use Rattle.std.specs.Option.{option_map}
@@ -32,6 +32,13 @@ module _ {means : List ℕ → Option (List ℕ)} {deep : ℕ} {aim : Aim} where
   -- the same events
   pub reach_same : {left : ℕ} {es fs : List Event} {now : Walk} → es ≡ fs → Reached means deep aim left es now → Reached means deep aim left fs now
   reach_same {left} {es} {fs} {now} e r = subst (λ l. Reached means deep aim left l now) e r
+
+  -- events of which a walk makes the same
+  pub reach_run : {left : ℕ} {es fs : List Event} {now : Walk}
+      → ((t : ℕ) (c : Bool) (ps : List Piece) → run (shapes means) (record { depth = deep; work = now.work.limit }) t c ps es ≡ run (shapes means) (record { depth = deep; work = now.work.limit }) t c ps fs)
+      → Reached means deep aim left es now → Reached means deep aim left fs now
+  reach_run {left} {es} {fs} {now} e r =
+      record { bound = r.bound; pieces = r.pieces; goes = sym (e now.work.total now.marks.changed r.pieces) ∙ r.goes; marked = r.marked; holds = r.holds; few = r.few }
 
   -- fewer bytes are left
   pub reach_less : {more : ℕ} {es : List Event} {now : Walk} (left : ℕ) → left ≤ more → Reached means deep aim more es now → Reached means deep aim left es now
@@ -69,16 +76,25 @@ module _ {means : List ℕ → Option (List ℕ)} {deep : ℕ} {aim : Aim} where
           holds = r.holds;
         }
 
-  -- one charge, by the answer of the call
+  -- the charges of a call, by its answer
+  module _ {now : Walk} {w : WorkBudget} {left : ℕ} (es : List Event) (ks : List ℕ) (e : w ≡ spent now.work ks) where
+    pub reach_paid : {x : Unit {0}} → Ok x ≡ paid now.work ks tt → Reached means deep aim left (charges ks es) now → Reached means deep aim left es (worked w now)
+    reach_paid says r = reach_charges es ks w.total e (sym (ap (works now.work) (append-nil ks)) ∙ (went now.work w ks e tt says).0.on []) r
+
+    pub stop_paid : (f : WorkFault) → ◌≡◌ {A = Result (Unit {0}) WorkFault} (Err f) (paid now.work ks tt) → Reached means deep aim left (charges ks es) now
+        → Stopped aim (worked w now) (ExpansionWorkLimitExceeded f.work f.limit)
+    stop_paid f says r =
+        let b = broke now.work w ks e tt says in
+        subst (λ (g : WorkFault). Stopped aim (worked w now) (ExpansionWorkLimitExceeded g.work g.limit)) (sym b.fault) (stop_charges es ks w.total e (sym (ap (works now.work) (append-nil ks)) ∙ b.off []) r)
+
+  -- one charge
   module _ {now : Walk} {w : WorkBudget} {left : ℕ} {es : List Event} (k : ℕ) (e : w ≡ spent now.work (k ∷ [])) where
     pub reach_charge : {x : Unit {0}} → Ok x ≡ paid now.work (k ∷ []) tt → Reached means deep aim left (charge k ∷ es) now → Reached means deep aim left es (worked w now)
-    reach_charge says r = reach_charges es (k ∷ []) w.total e ((went now.work w (k ∷ []) e tt says).0.on []) r
+    reach_charge says r = reach_paid es (k ∷ []) e says r
 
     pub stop_charge : (f : WorkFault) → ◌≡◌ {A = Result (Unit {0}) WorkFault} (Err f) (paid now.work (k ∷ []) tt) → Reached means deep aim left (charge k ∷ es) now
         → Stopped aim (worked w now) (ExpansionWorkLimitExceeded f.work f.limit)
-    stop_charge f says r =
-        let b = broke now.work w (k ∷ []) e tt says in
-        subst (λ (g : WorkFault). Stopped aim (worked w now) (ExpansionWorkLimitExceeded g.work g.limit)) (sym b.fault) (stop_charges es (k ∷ []) w.total e (b.off []) r)
+    stop_charge f says r = stop_paid es (k ∷ []) e f says r
 
   module _ {now : Walk} {left : ℕ} {es : List Event} where
     -- pieces are put out

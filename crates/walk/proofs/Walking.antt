@@ -1,6 +1,6 @@
 -- A frame is walked on, step by step.
-use Rattle.std.proofs.Common.{◌≡◌, ℕ, suc, ◌+◌, ◌-◌, ◌≤◌, List, length, take, drop, Some, None, Ok, Err, Option, Result, sym, refl, ap, ◌∙◌, subst, arith}
-use Rattle.std.proofs.lemmas.List.{length-take-le, take-take}
+use Rattle.std.proofs.Common.{◌≡◌, ℕ, suc, ◌+◌, ◌-◌, ◌≤◌, List, [], length, take, drop, Some, None, Ok, Err, Option, Result, sym, refl, ap, ◌∙◌, subst, arith, length-drop}
+use Rattle.std.proofs.lemmas.List.{drop_all, drop-drop, length-take-le, take-take}
 use Rattle.budget.specs.declared.WorkBudget.{WorkBudget}
 use Rattle.budget.specs.Charges.{spent}
 use Rattle.names.specs.declared.PropertySyntax.{PropertySyntax}
@@ -15,6 +15,7 @@ use Rattle.walk.specs.declared.frame.ExpansionFrame.{ExpansionFrame}
 use Rattle.walk.specs.declared.state.Walk.{Walk}
 use Rattle.expansion.specs.Events.{Event, frame, trace}
 use Rattle.walk.specs.Frames.{Aim, Applied, Applies, Askable, Framed, Onward, OpensAt, Reached, Stopped, completed, completion_of, frame_events, frame_of, moved, part, rest, room_of, text_of, worked}
+use Rattle.walk.specs.Plains.{PassesPlain}
 use Rattle.walk.proofs.Framing.{Found, Lies, found, found_lies, found_none, reach_end, reach_step, stop_look}
 use Rattle.walk.proofs.Reaching.{reach_less, reach_same}
 
@@ -46,6 +47,55 @@ opens_short close s Dollar n i e next h k = absurd h
 opens_short close s (Property name len) n i e next h k = absurd h
 opens_short close s Nothing n i e next h k = absurd h
 opens_short close s (Interpolate text completion) n i e next h k = k
+
+-- Bytes before the next `$` were passed, or the walk stopped there; or the frame is at its end.
+module _ {means : List ℕ → Option (List ℕ)} {deep : ℕ} {text : List ℕ} {d : ℕ} {x y : ExpansionFrame} {before now : Walk}
+    (inv : Walking means deep text d x before y now) (fits : x.end ≤ length text) where
+  abbrev whole : List ℕ
+  whole = take x.end text
+
+  ends_there : y.end ≡ x.end
+  ends_there = ap (λ (z : ExpansionFrame). z.end) inv.frame
+
+  long : length whole ≡ x.end
+  long = length-take-le x.end text fits
+
+  left_at : (f k : ℕ) (es : List Event) → trace (suc f) d (shapes means) y.syntax k (part text k y.end) es ≡ frame (nested_by (shapes means) f d y.syntax) d y.syntax (shapes means) k (drop k whole) 0 es
+  left_at f k es = trace_is (shapes means) f d y.syntax k (part text k y.end) es ∙ ap (λ e. frame (nested_by (shapes means) f d y.syntax) d y.syntax (shapes means) k (drop k (take e text)) 0 es) ends_there
+
+  pub walk_done : x.end ≤ y.cursor → (f : ℕ) (aim : Aim) (left : ℕ) (es : List Event)
+      → Reached means deep aim (rest x + left) (frame_events (shapes means) text (suc f) d x es) before → Reached means deep aim left es now
+  unfolding frame
+  walk_done h f aim left es r =
+      let none : drop y.cursor whole ≡ [] = drop_all y.cursor whole (omega (arith, long)) in
+      reach_less left (omega arith)
+      (reach_same (left_at f y.cursor es ∙ ap (λ l. frame (nested_by (shapes means) f d y.syntax) d y.syntax (shapes means) y.cursor l 0 es) none) (inv.goes f aim left es r))
+
+  module _ (bs : List ℕ) (is : bs ≡ drop y.cursor whole) (after : Walk) where
+    at_bytes : (f : ℕ) (aim : Aim) (left : ℕ) (es : List Event) → Reached means deep aim (rest x + left) (frame_events (shapes means) text (suc f) d x es) before
+        → Reached means deep aim (length bs + left) (frame (nested_by (shapes means) f d y.syntax) d y.syntax (shapes means) y.cursor bs 0 es) now
+    at_bytes f aim left es r =
+        let size : length bs ≡ rest y = ap length is ∙ length-drop y.cursor whole ∙ ap (λ n. n - y.cursor) (long ∙ sym ends_there) in
+        subst (λ n. Reached means deep aim (n + left) (frame (nested_by (shapes means) f d y.syntax) d y.syntax (shapes means) y.cursor bs 0 es) now) (sym size)
+        (reach_same (left_at f y.cursor es ∙ ap (λ l. frame (nested_by (shapes means) f d y.syntax) d y.syntax (shapes means) y.cursor l 0 es) (sym is)) (inv.goes f aim left es r))
+
+    pub walk_plain : (n : ℕ) → n ≤ length bs → PassesPlain means deep bs now after (Ok n) → Walking means deep text d x before (moved y (y.cursor + n)) after
+    walk_plain n within passed =
+        record {
+          frame = ap (λ z. moved z (y.cursor + n)) inv.frame;
+          on = omega (arith, inv.on);
+          goes = λ f aim left es r.
+              let N = nested_by (shapes means) f d y.syntax in
+              let on = passed N d y.syntax y.cursor aim left es (at_bytes f aim left es r) in
+              let behind : drop n bs ≡ drop (y.cursor + n) whole = ap (drop n) is ∙ drop-drop n y.cursor whole in
+              let size = ap length is ∙ length-drop y.cursor whole in
+              reach_same (ap (λ l. frame N d y.syntax (shapes means) (y.cursor + n) l 0 es) behind ∙ sym (left_at f (y.cursor + n) es))
+              (reach_less (rest (moved y (y.cursor + n)) + left) (omega (arith, size, long, ends_there)) on);
+        }
+
+    pub walk_plain_stop : (e : PropertyError) → PassesPlain means deep bs now after (Err e) → (f : ℕ) (aim : Aim) (left : ℕ) (es : List Event)
+        → Reached means deep aim (rest x + left) (frame_events (shapes means) text (suc f) d x es) before → Stopped aim after e
+    walk_plain_stop e passed f aim left es r = passed (nested_by (shapes means) f d y.syntax) d y.syntax y.cursor aim left es (at_bytes f aim left es r)
 
 module _ {means : List ℕ → Option (List ℕ)} {deep : ℕ} {text : List ℕ} {d : ℕ} {x y : ExpansionFrame} {before now : Walk} {w : WorkBudget}
     (inv : Walking means deep text d x before y now) (fits : x.end ≤ length text)

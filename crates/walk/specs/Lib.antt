@@ -3,3 +3,4 @@ pub mod Stacks
 pub mod Endings
 pub mod Outcomes
 pub mod Slots
+pub mod Plains

@@ -6,6 +6,7 @@ pub mod frame;
 mod frames;
 pub mod interpolate;
 mod marks;
+mod plain;
 pub mod record;
 pub mod slot;
 mod state;

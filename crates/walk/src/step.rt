@@ -3,6 +3,7 @@ ghost use Rattle.walk.specs.Frames.{Frames, Nested, moved};
 
 use crate::apply::apply_action;
 use crate::frame::ExpansionFrame;
+use crate::plain::pass_plain;
 use crate::state::{Given, Site, Walk};
 use items::look::look_at;
 use references::error::PropertyError;
@@ -22,13 +23,19 @@ pub(crate) fn walk_frame<S: PropertySource>(
 {
     let end = frame.end;
     let input = &given.text[..end];
-    while let Some(step) = look_at(
-        given.source,
-        input,
-        frame.cursor,
-        frame.syntax,
-        &mut walk.work,
-    )? {
+    'items: while frame.cursor < end {
+        let plain = pass_plain(&input[frame.cursor..], walk)?;
+        frame.cursor += plain;
+        let looked = look_at(
+            given.source,
+            input,
+            frame.cursor,
+            frame.syntax,
+            &mut walk.work,
+        )?;
+        let Some(step) = looked else {
+            return Ok(None);
+        };
         let site = Site {
             close: step.next - 1,
             depth,
