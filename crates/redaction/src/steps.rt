@@ -1,10 +1,10 @@
 use crate::draft::{Draft, Unmade};
-use matches::matching::{Matches, sole_match};
+use matches::matching::{Matches, find_match, sole_match};
 use pairs::list::PairList;
 use pairs::pair::Pair;
 
 impl Draft<'_, '_> {
-    ghost use Rattle.std.specs.Prelude.{◌≡◌, length};
+    ghost use Rattle.std.specs.Prelude.{◌≡◌, ℕ, false, length};
     ghost use Rattle.pairs.specs.Lists.{scope};
     ghost use Rattle.pairs.specs.Records.{pair_read};
     ghost use Rattle.pairs.specs.Sizes.{of_size};
@@ -24,13 +24,22 @@ impl Draft<'_, '_> {
         }
     }
 
+    // Whether the result of a pair stands in the text: where it does not, nothing is done for the pair.
+    #[tactic(auto, using(crate::proofs::StepsLaws::absent))]
+    fn holds(&self, pair: Pair) -> bool
+        ensures { result ≡ false → (n : ℕ) → step n (state_of self.now) (pair_read pair.entry) ≡ state_of self.now }
+    {
+        find_match(self.text(), pair.result).is_some()
+    }
+
     // Takes the pairs whose result has `size` bytes, in their order, each once.
+    // Most results stand in no message, so that is asked first: to look for a repeat is to go through all pairs before.
     fn take_size(&mut self, pairs: &PairList, size: usize) -> Result<(), Unmade>
         ensures says { ending self.new result ≡ steps (length self.old.area.now) (state_of self.old) (of_size size (scope pairs.now)) }
         ensures keeps { Kept self.old self.new }
     {
         for (i, pair) in pairs.iter().enumerate() {
-            if pair.result.len() == size && !pairs.first(i).has(pair) {
+            if pair.result.len() == size && self.holds(pair) && !pairs.first(i).has(pair) {
                 self.take_pair(pair)?;
             }
         }
