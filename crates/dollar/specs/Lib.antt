@@ -1,5 +1,6 @@
 pub mod Calls
 pub mod Held
+pub mod Laws
 pub mod Opening
 pub mod Outcomes
 pub mod Reading

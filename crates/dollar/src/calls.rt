@@ -1,5 +1,6 @@
 ghost use Rattle.std.specs.Prelude.{◌≡◌, length, replicate};
 ghost use Rattle.dollar.specs.Calls.{area_after, key_done, lent, outcome_of, pairs_after, session_after, value_done};
+ghost use Rattle.dollar.specs.Laws.{ValuesDoNotShow};
 ghost use Rattle.dollar.specs.Outcomes.{bad_session};
 
 use crate::marks::DollarMarks;
@@ -35,6 +36,7 @@ pub extern "C" fn dollar_key(
     ensures session { session.new ≡ session_after session.old (key_done session.old table.now stem.now (lent marks.old records.old bytes.old) (length frames.old) (length area.old) text.now) }
     ensures area { area.new ≡ area_after (length area.old) (key_done session.old table.now stem.now (lent marks.old records.old bytes.old) (length frames.old) (length area.old) text.now) }
     ensures pairs { lent marks.new records.new bytes.new ≡ pairs_after (lent marks.old records.old bytes.old) text.now (key_done session.old table.now stem.now (lent marks.old records.old bytes.old) (length frames.old) (length area.old) text.now) }
+    ensures values { ValuesDoNotShow key_done }
 {
     let Some(mut restored) = session.restored(table, stem) else {
         return refuse_session(area);
@@ -63,6 +65,7 @@ pub extern "C" fn dollar_value(
     ensures session { session.new ≡ session_after session.old (value_done session.old table.now stem.now (lent marks.old records.old bytes.old) (length frames.old) (length area.old) text.now) }
     ensures area { area.new ≡ area_after (length area.old) (value_done session.old table.now stem.now (lent marks.old records.old bytes.old) (length frames.old) (length area.old) text.now) }
     ensures pairs { lent marks.new records.new bytes.new ≡ pairs_after (lent marks.old records.old bytes.old) text.now (value_done session.old table.now stem.now (lent marks.old records.old bytes.old) (length frames.old) (length area.old) text.now) }
+    ensures values { ValuesDoNotShow value_done }
 {
     let Some(mut restored) = session.restored(table, stem) else {
         return refuse_session(area);
