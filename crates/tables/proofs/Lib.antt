@@ -3,4 +3,4 @@ mod Looking
 mod Checking
 mod Telling
 mod Placing
-mod Viewing
+pub mod Viewing
