@@ -1,2 +1,3 @@
+pub mod OpeningLaws
 pub mod ToldLaws
 pub mod ValuesLaws

@@ -1,14 +1,20 @@
 -- What opening a session comes to.
-use Rattle.std.specs.Prelude.{ℕ, cond, ◌==◌, List, Some, None, Ok, Err, Option, Result}
+use Rattle.std.specs.Prelude.{◌≡◌, ◌≢◌, ℕ, true, cond, ◌==◌, List, Some, None, Ok, Err, Option, Result}
 use Rattle.source.specs.declared.error.SourceError.{SourceError}
 use Rattle.names.specs.declared.PropertySyntax.{PropertySyntax}
-use Rattle.stem.specs.Stems.{stem_verdict}
-use Rattle.dollar.specs.Held.{closed, syntax_numbered}
+use Rattle.stem.specs.Stems.{stem_lawful, stem_verdict}
+use Rattle.session.specs.Sessions.{made}
+use Rattle.tables.specs.Blocks.{block_format}
+use Rattle.tables.specs.Books.{book_format}
+use Rattle.tables.specs.Meaning.{Tells}
+use Rattle.tables.specs.Rows.{rows}
+use Rattle.dollar.specs.Held.{closed, session_of, source_means, syntax_numbered}
 use Rattle.dollar.specs.Outcomes.{bad_session, checked_as, source_refused}
-use Rattle.dollar.specs.Tables.{kind_numbered, kind_verdict}
+use Rattle.dollar.specs.Tables.{kind_numbered, kind_verdict, table_means}
 use Rattle.dollar.specs.declared.outcome.DollarOutcome.{DollarOutcome}
 use Rattle.dollar.specs.declared.sessions.DollarSession.{DollarSession}
 use Rattle.dollar.specs.declared.table.TableKind.{TableKind}
+use Rattle.dollar.specs.declared.table.TableKind.TheVariants.{Empty, Book, Block}
 
 -- the check of a stem, where that of the table has passed
 abbrev pub stem_next : Result (Unit {0}) SourceError → (stem : List ℕ) → DollarOutcome
@@ -31,3 +37,24 @@ fresh kind syntax depth work =
 -- The session after that: no work done and no limit passed; none where the opening is refused.
 abbrev pub opened : DollarOutcome → (kind syntax depth work : ℕ) → DollarSession
 opened told kind syntax depth work = cond (told.refusal == 0) (fresh kind syntax depth work) closed
+
+-- A lawful table is read so that it tells its rows.
+abbrev pub RowsTold : TableKind → List ℕ → Type 0
+RowsTold Empty table = (name : List ℕ) → table_means Empty table name ≡ None
+RowsTold Book table = Tells book_format (rows book_format table) (table_means Book table)
+RowsTold Block table = Tells block_format (rows block_format table) (table_means Block table)
+
+-- The numbers d stand for the session that was asked for: no work done and no limit passed, over a table that tells its rows and under a lawful stem.
+pub record Begun (kind syntax depth work : ℕ) (table stem : List ℕ) (d : DollarSession) : Type 0 where
+  pub table_kind : TableKind
+  pub of_kind : kind_numbered kind ≡ Some table_kind
+  pub written : PropertySyntax
+  pub of_syntax : syntax_numbered syntax ≡ Some written
+  pub session : session_of d table stem ≡ Some (made (source_means table_kind table stem) written depth work)
+  pub told : RowsTold table_kind table
+  pub lawful : stem_lawful stem ≡ true
+
+-- An opening that answers begins that session. After one that is refused there is none, whatever is lent to it.
+pub record Opens (kind syntax depth work : ℕ) (table stem : List ℕ) (outcome : DollarOutcome) (d : DollarSession) : Type 0 where
+  pub answered : outcome.refusal ≡ 0 → Begun kind syntax depth work table stem d
+  pub refused : outcome.refusal ≢ 0 → (t s : List ℕ) → session_of d t s ≡ None

@@ -1,5 +1,5 @@
 ghost use Rattle.std.specs.Prelude.{◌≡◌};
-ghost use Rattle.dollar.specs.Opening.{open_told, opened};
+ghost use Rattle.dollar.specs.Opening.{Opens, open_told, opened};
 ghost use Rattle.dollar.specs.Tables.{kind_verdict};
 
 use crate::outcome::{DollarOutcome, checked};
@@ -34,6 +34,29 @@ fn check_open(table_kind: u32, syntax: u32, table: &[u8], stem: &[u8]) -> Dollar
     checked(check_stem(stem))
 }
 
+// The session that an opening leaves.
+fn opened(
+    outcome: DollarOutcome,
+    table_kind: u32,
+    syntax: u32,
+    max_depth: usize,
+    max_work: usize,
+) -> DollarSession
+    ensures { result ≡ opened outcome table_kind syntax max_depth max_work }
+{
+    let closed = DollarSession::closed();
+    if outcome.refusal != 0 {
+        return closed;
+    }
+    DollarSession {
+        table_kind,
+        syntax,
+        max_depth,
+        max_work,
+        ..closed
+    }
+}
+
 // Opens a session, with no work done and no limit passed. An empty stem is none.
 // Refused are a kind or a syntax of another number (100), an unlawful table (13, 14) and an unlawful stem (15); then there is no session.
 #[unsafe(no_mangle)]
@@ -48,18 +71,9 @@ pub extern "C" fn dollar_open(
 ) -> DollarOutcome
     ensures outcome { result ≡ open_told table_kind syntax table.now stem.now }
     ensures session { session.new ≡ opened (open_told table_kind syntax table.now stem.now) table_kind syntax max_depth max_work }
+    ensures opens { Opens table_kind syntax max_depth max_work table.now stem.now result session.new }
 {
     let outcome = check_open(table_kind, syntax, table, stem);
-    *session = if outcome.refusal == 0 {
-        DollarSession {
-            table_kind,
-            syntax,
-            max_depth,
-            max_work,
-            ..DollarSession::closed()
-        }
-    } else {
-        DollarSession::closed()
-    };
+    *session = opened(outcome, table_kind, syntax, max_depth, max_work);
     outcome
 }
