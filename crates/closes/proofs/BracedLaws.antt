@@ -1,11 +1,11 @@
 -- The search for the close in Braced as far as it has come, and how many bytes it looks at.
-use Rattle.std.proofs.Common.{◌≡◌, ℕ, suc, ◌+◌, ◌-◌, ◌<◌, ◌≤◌, Bool, true, false, cond, List, [], ◌∷◌, length, get_or, take, drop, replicate, Some, None, sym, refl, ap, ◌∙◌, arith}
-use Rattle.std.proofs.lemmas.List.{take_rest, at_drop_more, at_drop_all}
-use Rattle.std.proofs.lemmas.Bool.Decides.{nat_tests}
+use Rattle.std.proofs.Common.{◌≡◌, ℕ, suc, ◌+◌, ◌-◌, ◌<◌, ◌≤◌, Bool, true, false, cond, List, [], ◌∷◌, length, take, drop, replicate, Some, None, sym, refl, ap, ◌∙◌, arith}
+use Rattle.std.proofs.lemmas.Bool.{eq-eqb, eqb-true}
 use Rattle.std.specs.Prelude.{◌==◌}
 use Rattle.memchr.specs.Find.{IsFirstByte, Passes, is_byte}
-use Rattle.closes.specs.Braced.{braced, braced_close, braced_looks, braced_turn}
+use Rattle.closes.specs.Braced.{braced, braced_close, braced_looks, opened}
 use Rattle.closes.specs.Fronts.{opens}
+use Rattle.closes.proofs.OpenedLaws.{passed}
 use Rattle.closes.specs.Search.{by, ends, found, goes, looked}
 
 -- The search has come past i bytes with n levels open: what is left gives the close.
@@ -13,41 +13,16 @@ pub record Balancing (bs : List ℕ) (n i : ℕ) : Type 0 where
   pub close : braced_close bs ≡ found braced n i (drop i bs)
   pub high : n ≤ i
 
--- The byte at place i has the search go on with m levels open.
-pub record Steps (bs : List ℕ) (n i m : ℕ) : Type 0 where
-  pub so : braced_turn n i (get_or bs i 0) (drop (i + 1) bs) ≡ goes m
-  pub high : m ≤ n + 1
-
--- what a byte does, by the tests of the code; `&body[i + 1..]` is read as the `take`
-module _ (bs : List ℕ) (n i : ℕ) where
-  closing : get_or bs i 0 ≡ 125 → n ≡ 0 → braced_turn n i (get_or bs i 0) (drop (i + 1) bs) ≡ ends (Some i)
-  closing h z = grind (arith, nat_tests)
-
-  pub less : {m : ℕ} → get_or bs i 0 ≡ 125 → (n ≡ 0 → ⊥) → m ≡ n - 1 → Steps bs n i m
-  less h z e = record { so = grind (arith, nat_tests); high = omega arith }
-
-  pub more : {m : ℕ} → (get_or bs i 0 ≡ 125 → ⊥) → true ≡ opens (get_or bs i 0) (take (length bs - (i + 1)) (drop (i + 1) bs)) → m ≡ n + 1 → Steps bs n i m
-  more h o e = let t = sym (o ∙ ap (opens (get_or bs i 0)) (take_rest bs (i + 1))) in record { so = grind (arith, nat_tests); high = omega arith }
-
-  pub same : {m : ℕ} → (get_or bs i 0 ≡ 125 → ⊥) → false ≡ opens (get_or bs i 0) (take (length bs - (i + 1)) (drop (i + 1) bs)) → m ≡ n → Steps bs n i m
-  same h o e = let t = sym (o ∙ ap (opens (get_or bs i 0)) (take_rest bs (i + 1))) in record { so = grind (arith, nat_tests); high = omega arith }
-
-module _ {bs : List ℕ} {n i : ℕ} (r : Balancing bs n i) where
-  pub balancing_none : length bs ≤ i → None ≡ braced_close bs
-  balancing_none h = sym (r.close ∙ at_drop_all (found braced n i) bs i h)
-
-  module _ (h : i < length bs) where
-    turned : braced_close bs ≡ by (braced_turn n i (get_or bs i 0) (drop (i + 1) bs)) (λ o. o) (λ t. found braced t (i + 1) (drop (i + 1) bs))
-    turned = r.close ∙ at_drop_more (found braced n i) bs i 0 h
-
-    pub balancing_on : {m : ℕ} → Steps bs n i m → Balancing bs m (i + 1)
-    balancing_on p = record {
-      close = turned ∙ ap (λ v. by v (λ o. o) (λ t. found braced t (i + 1) (drop (i + 1) bs))) p.so;
-      high = omega (arith, r.high, p.high);
+-- the search from the first `}` on, with the levels that are opened before it
+pub begun : (bs : List ℕ) (first n : ℕ) → IsFirstByte (is_byte 125) bs (Some first) → n ≡ opened (take first bs) → Balancing bs n first
+begun bs first n h e =
+    let p = passed 0 0 first bs h.0.high (eqb-true _ _ h.1) (λ j q g. h.0.before j (omega arith) q (eq-eqb _ _ g)) in
+    let levels : 0 + opened (take first bs) ≡ n = omega arith in
+    let place : 0 + first ≡ first = omega arith in
+    record {
+      close = p.close ∙ ap (λ m. found braced m (0 + first) (drop first bs)) levels ∙ ap (λ j. found braced n j (drop first bs)) place;
+      high = omega (arith, p.few);
     }
-
-    pub balancing_end : get_or bs i 0 ≡ 125 → n ≡ 0 → Some i ≡ braced_close bs
-    balancing_end c z = sym (turned ∙ ap (λ v. by v (λ o. o) (λ t. found braced t (i + 1) (drop (i + 1) bs))) (closing bs n i c z))
 
 -- where no byte is `}`, there is no close
 closeless_from : (n i : ℕ) (bs : List ℕ) → ((k : ℕ) → k < length bs → Passes (is_byte 125) bs k → ⊥) → found braced n i bs ≡ None

@@ -1,4 +1,5 @@
 pub mod SearchLaws
+pub mod OpenedLaws
 pub mod BracedLaws
 pub mod BodyLaws
 pub mod ComposeLaws

@@ -1,5 +1,6 @@
 -- Where a reference closes in Braced and BracedOrBare. `}` is 125.
-use Rattle.std.specs.Prelude.{ℕ, ◌+◌, ◌-◌, cond, List, Some, None, Option, ◌==◌}
+use Rattle.std.specs.Prelude.{ℕ, ◌+◌, ◌-◌, cond, ◌&&◌, List, drop, Some, None, Option, ◌==◌, count_by}
+use Rattle.std.specs.List.{zip}
 use Rattle.closes.specs.Fronts.{opens}
 use Rattle.closes.specs.Search.{Turn, ends, goes, Search, found, looked}
 
@@ -20,3 +21,7 @@ braced_close bs = found braced 0 0 bs
 -- the charges: one for each byte up to the close
 abbrev pub braced_looks : List ℕ → List ℕ
 braced_looks bs = looked braced 0 0 bs
+
+-- how many inner `${` bytes have; `{` is 123
+abbrev pub opened : List ℕ → ℕ
+opened bs = count_by (λ p. p.0 == 36 && p.1 == 123) (zip bs (drop 1 bs))

@@ -1,27 +1,40 @@
 ghost use Rattle.std.specs.Prelude.{◌≡◌, ℕ, ◌<◌, List, length, replicate, IfSome};
 ghost use Rattle.budget.specs.Charges.{paid, spent};
-ghost use Rattle.closes.specs.Braced.{braced_close, braced_looks};
+ghost use Rattle.closes.specs.Braced.{braced_close, braced_looks, opened};
 
 use crate::fronts::opens_inner;
 use budget::{WorkBudget, WorkFault};
 use memchr::memchr;
 
+// How many inner `${` bytes have.
+// Each pair of bytes is compared whole, by `&` and places: so the compiler takes many at a step.
+fn count_opened(bytes: &[u8]) -> usize
+    ensures { result ≡ opened bytes.now }
+{
+    let mut count = 0;
+    for i in 1..bytes.len() {
+        if (bytes[i - 1] == b'$') & (bytes[i] == b'{') {
+            count += 1;
+        }
+    }
+    count
+}
+
 // The place of the `}` that leaves no inner `${` open.
-// Without a `}` the search ends at once: texts with many `${` and no close would take long else.
-#[tactic(auto, using(crate::proofs::BracedLaws::closeless))]
+// Up to the first `}` each `${` opens one more, and none is closed; the search goes on from there. Both parts before it are quick, and most references end there.
 fn balanced_close(body: &[u8]) -> Option<usize>
     ensures says { result ≡ braced_close body.now }
     ensures within { IfSome result (λ k. k < length body.now) }
 {
-    memchr(b'}', body)?;
-    let mut depth = 0usize;
-    for (i, &byte) in body.iter().enumerate() {
-        if byte == b'}' {
+    let first = memchr(b'}', body)?;
+    let mut depth = count_opened(&body[..first]);
+    for i in first..body.len() {
+        if body[i] == b'}' {
             if depth == 0 {
                 return Some(i);
             }
             depth -= 1;
-        } else if opens_inner(byte, &body[i + 1..]) {
+        } else if opens_inner(body[i], &body[i + 1..]) {
             depth += 1;
         }
     }
