@@ -3,4 +3,5 @@ mod Looking
 mod Checking
 mod Telling
 mod Placing
+mod Naming
 pub mod Viewing

@@ -58,6 +58,11 @@ impl RowFormat for Entries {
         find_byte(row, b'=').map_or(row, |name| &row[..name])
     }
 
+    #[tactic(auto, using(crate::proofs::Naming::by_front))]
+    fn is_named(row: &[u8], name: &[u8]) -> bool {
+        row.starts_with(name) && Entries::name_of(row) == name
+    }
+
     fn value_of(row: &[u8]) -> &[u8] {
         let Some(name) = find_byte(row, b'=') else {
             return &[];
