@@ -67,14 +67,11 @@ mod original {
     }
 
     impl Original {
-        pub fn new(block: &[u8]) -> Self {
-            let entry = |entry: &[u8]| {
-                let text = std::str::from_utf8(entry).unwrap();
-                let (name, value) = text.split_once('=').unwrap();
-                (name.to_owned(), value.to_owned())
-            };
-            let values = block.split(|byte| *byte == 0).filter(|bytes| !bytes.is_empty()).map(entry).collect();
-            Original { values, total: Cell::new(0) }
+        pub fn new(properties: &[(String, String)]) -> Self {
+            Original {
+                values: properties.iter().cloned().collect(),
+                total: Cell::new(0),
+            }
         }
 
         fn interpolate<'t>(&self, text: &'t [u8]) -> Cow<'t, str> {
@@ -104,7 +101,9 @@ mod original {
             for text in texts {
                 let effective = self.interpolate(text).into_owned();
                 let raw = String::from_utf8(text.clone()).unwrap();
-                drop(redaction::ScalarRedactionGuard::new(redaction::ScalarRedactionCtx { raw, effective }));
+                drop(redaction::ScalarRedactionGuard::new(
+                    redaction::ScalarRedactionCtx { raw, effective },
+                ));
             }
             scope
         }
@@ -137,10 +136,52 @@ impl Memory {
         }
     }
 
-    fn session<'a>(&'a mut self, block: &'a [u8]) -> Session<'a> {
-        let lent = Lent { frames: &mut self.frames, records: &mut self.records, bytes: &mut self.bytes, area: &mut self.area };
-        Session::open(Table::Block(block), b"", Syntax::Braced, usize::MAX, usize::MAX, lent).unwrap()
+    fn session<'a>(&'a mut self, table: Table<'a>) -> Session<'a> {
+        let lent = Lent {
+            frames: &mut self.frames,
+            records: &mut self.records,
+            bytes: &mut self.bytes,
+            area: &mut self.area,
+        };
+        Session::open(table, b"", Syntax::Braced, usize::MAX, usize::MAX, lent).unwrap()
     }
+}
+
+/// Properties, as each kind of table lays them and as the original takes them.
+struct Properties {
+    pairs: Vec<(String, String)>,
+    book: Vec<u8>,
+    block: Vec<u8>,
+}
+
+impl Properties {
+    fn new(pairs: Vec<(String, String)>) -> Self {
+        let mut book = Vec::new();
+        let mut block = Vec::new();
+        for (name, value) in &pairs {
+            let mut record = [0; 256];
+            record[0] = name.len() as u8;
+            record[1..1 + name.len()].copy_from_slice(name.as_bytes());
+            record[64] = value.len() as u8;
+            record[65..65 + value.len()].copy_from_slice(value.as_bytes());
+            book.extend_from_slice(&record);
+            block.extend_from_slice(format!("{name}={value}\0").as_bytes());
+        }
+        Properties { pairs, book, block }
+    }
+
+    fn table(&self, kind: Kind) -> Table<'_> {
+        match kind {
+            Kind::Book => Table::Book(&self.book),
+            Kind::Block => Table::Block(&self.block),
+        }
+    }
+}
+
+#[derive(Clone, Copy)]
+enum Kind {
+    Book,
+    Block,
 }
 
 /// What was measured of one case: the least time of a call, and what it allocates.
@@ -168,7 +209,14 @@ impl<F: FnMut()> Side<F> {
         let once = start.elapsed();
         let allocations = ALLOCATIONS.load(Ordering::Relaxed) - before;
         let calls = (Self::ROUND.as_nanos() / once.as_nanos().max(1)).clamp(1, 10_000) as usize;
-        Side { call, calls, measured: Measured { nanoseconds: f64::MAX, allocations } }
+        Side {
+            call,
+            calls,
+            measured: Measured {
+                nanoseconds: f64::MAX,
+                allocations,
+            },
+        }
     }
 
     fn round(&mut self) {
@@ -197,13 +245,13 @@ fn in_turns(library: impl FnMut(), original: Option<impl FnMut()>) -> (Measured,
     (library.measured, original.map(|side| side.measured))
 }
 
-/// Texts, one after another in a session over a block. Each answer is compared with the original's first.
-fn values(block: &[u8], texts: &[Vec<u8>]) -> (Measured, Option<Measured>) {
+/// Texts, one after another in a session. Each answer is compared with the original's first.
+fn values(properties: &Properties, kind: Kind, texts: &[Vec<u8>]) -> (Measured, Option<Measured>) {
     let longest = texts.iter().map(Vec::len).max().unwrap_or(0);
-    let mut memory = Memory::new(longest);
-    let mut session = memory.session(block);
+    let mut memory = Memory::new(longest + 64);
+    let mut session = memory.session(properties.table(kind));
     #[cfg(original)]
-    let original = Original::new(block);
+    let original = Original::new(&properties.pairs);
     #[cfg(original)]
     for text in texts {
         assert_eq!(session.value(text).unwrap(), original.value(text));
@@ -221,31 +269,44 @@ fn values(block: &[u8], texts: &[Vec<u8>]) -> (Measured, Option<Measured>) {
 }
 
 /// The redaction of a message, in a scope with the pairs of these texts.
-fn message(block: &[u8], texts: &[Vec<u8>], said: &[u8]) -> (Measured, Option<Measured>) {
+fn message(
+    properties: &Properties,
+    texts: &[Vec<u8>],
+    said: &[u8],
+) -> (Measured, Option<Measured>) {
     let mut memory = Memory::new(said.len());
-    memory.session(block).scope(|session| {
-        for text in texts {
-            session.value(text).unwrap();
-        }
-        #[cfg(original)]
-        let _scope = Original::new(block).scope(texts);
-        #[cfg(original)]
-        assert_eq!(session.message(said).unwrap(), Original::message(said).as_bytes());
-        let library = || {
-            black_box(session.message(black_box(said)).is_ok());
-        };
-        #[cfg(original)]
-        let other = Some(|| {
-            black_box(Original::message(black_box(said)));
-        });
-        #[cfg(not(original))]
-        let other = None::<fn()>;
-        in_turns(library, other)
-    })
+    memory
+        .session(properties.table(Kind::Book))
+        .scope(|session| {
+            for text in texts {
+                session.value(text).unwrap();
+            }
+            #[cfg(original)]
+            let _scope = Original::new(&properties.pairs).scope(texts);
+            #[cfg(original)]
+            assert_eq!(
+                session.message(said).unwrap(),
+                Original::message(said).as_bytes()
+            );
+            let library = || {
+                black_box(session.message(black_box(said)).is_ok());
+            };
+            #[cfg(original)]
+            let other = Some(|| {
+                black_box(Original::message(black_box(said)));
+            });
+            #[cfg(not(original))]
+            let other = None::<fn()>;
+            in_turns(library, other)
+        })
 }
 
+/// A line of the table of cases.
 fn line(name: &str, (library, original): (Measured, Option<Measured>)) {
-    let Measured { nanoseconds, allocations } = library;
+    let Measured {
+        nanoseconds,
+        allocations,
+    } = library;
     match original {
         Some(original) => println!(
             "| {name} | {nanoseconds:.0} | {:.0} | {:.2} | {allocations} | {} |",
@@ -257,29 +318,79 @@ fn line(name: &str, (library, original): (Measured, Option<Measured>)) {
     }
 }
 
-/// How the time of a kind of text grows with its length: microseconds at each, and how much longer each takes than half of it.
-fn growth(name: &str, block: &[u8], text: impl Fn(usize) -> Vec<u8>) {
-    let measured: Vec<_> = [1024, 2048, 4096, 8192].iter().map(|n| values(block, &[text(*n)])).collect();
-    let row = |side: &str, times: &[f64]| {
-        print!("| {name} | {side} |");
-        for (i, time) in times.iter().enumerate() {
-            print!(" {:.1}", time / 1000.0);
-            if i > 0 {
-                print!(" (x{:.1})", time / times[i - 1]);
-            }
-            print!(" |");
+/// Microseconds at each size, and how much longer each takes than the one before.
+fn row(name: &str, side: &str, times: &[f64]) {
+    print!("| {name} | {side} |");
+    for (i, time) in times.iter().enumerate() {
+        print!(" {:.1}", time / 1000.0);
+        if i > 0 {
+            print!(" (x{:.1})", time / times[i - 1]);
         }
-        println!();
-    };
-    row("library", &measured.iter().map(|(library, _)| library.nanoseconds).collect::<Vec<_>>());
-    if let Some(times) = measured.iter().map(|(_, original)| original.map(|side| side.nanoseconds)).collect::<Option<Vec<_>>>() {
-        row("original", &times);
+        print!(" |");
     }
+    println!();
+}
+
+fn rows(name: &str, measured: &[(Measured, Option<Measured>)]) {
+    row(
+        name,
+        "library",
+        &measured
+            .iter()
+            .map(|(library, _)| library.nanoseconds)
+            .collect::<Vec<_>>(),
+    );
+    if let Some(times) = measured
+        .iter()
+        .map(|(_, original)| original.map(|side| side.nanoseconds))
+        .collect::<Option<Vec<_>>>()
+    {
+        row(name, "original", &times);
+    }
+}
+
+/// How the time of a kind of text grows with its length.
+fn growth(name: &str, properties: &Properties, text: impl Fn(usize) -> Vec<u8>) {
+    let measured: Vec<_> = [1024, 2048, 4096, 8192]
+        .iter()
+        .map(|n| values(properties, Kind::Book, &[text(*n)]))
+        .collect();
+    rows(name, &measured);
+}
+
+/// How the time of a reference grows with the table: to the last name of n.
+fn lookups(name: &str, kind: Kind) {
+    let measured: Vec<_> = [4, 16, 64]
+        .iter()
+        .map(|n| {
+            let properties = numbered(*n);
+            values(
+                &properties,
+                kind,
+                &[format!("limit: ${{{}}}", properties.pairs[n - 1].0).into_bytes()],
+            )
+        })
+        .collect();
+    rows(name, &measured);
+}
+
+/// Properties `CABINET_00` and so on.
+fn numbered(n: usize) -> Properties {
+    Properties::new(
+        (0..n)
+            .map(|i| (format!("CABINET_{i:02}"), format!("secret value {i:02}")))
+            .collect(),
+    )
 }
 
 /// Defaults inside one another.
 fn nested(levels: usize) -> Vec<u8> {
-    [b"${U:-".repeat(levels), b"deep".to_vec(), b"}".repeat(levels)].concat()
+    [
+        b"${U:-".repeat(levels),
+        b"deep".to_vec(),
+        b"}".repeat(levels),
+    ]
+    .concat()
 }
 
 /// A reference at the front of each 16 bytes.
@@ -288,27 +399,61 @@ fn references(count: usize) -> Vec<u8> {
 }
 
 fn main() {
-    let block = b"TARIFF_PASS=s0l${LIMIT}ar\0C=12\0LIMIT=16\0";
+    let properties = [
+        ("TARIFF_PASS", "s0l${LIMIT}ar"),
+        ("C", "12"),
+        ("LIMIT", "16"),
+    ];
+    let properties = Properties::new(
+        properties
+            .map(|(name, value)| (name.to_owned(), value.to_owned()))
+            .to_vec(),
+    );
     println!("| case | library, ns | original, ns | ratio | allocations | original's |");
     println!("|---|---|---|---|---|---|");
-    let one = [b"a".repeat(25), b"${TARIFF_PASS}".to_vec(), b"b".repeat(25)].concat();
-    line("64 bytes, one reference", values(block, &[one]));
-    line("8 KiB without `$`", values(block, &[b"x".repeat(TEXT_MAX)]));
-    line("8 KiB, 500 references", values(block, &[[references(500), b"z".repeat(192)].concat()]));
-    line("60 nested defaults", values(block, &[nested(60)]));
-    line("`${` 4,096 times", values(block, &[b"${".repeat(4096)]));
-    let short: Vec<_> = (0..200).map(|i| format!("value {i} of ${{C}}").into_bytes()).collect();
-    line("200 short texts", values(block, &short));
-    let secrets: Vec<_> = (0..64).flat_map(|i| format!("N{i:02}=secret value {i:02}\0").into_bytes()).collect();
-    let texts: Vec<_> = (0..64).map(|i| format!("${{N{i:02}}}").into_bytes()).collect();
+    let case =
+        |name: &str, kind: Kind, texts: &[Vec<u8>]| line(name, values(&properties, kind, texts));
+    case(
+        "64 bytes, one reference",
+        Kind::Book,
+        &[[b"a".repeat(25), b"${TARIFF_PASS}".to_vec(), b"b".repeat(25)].concat()],
+    );
+    case("8 KiB without `$`", Kind::Book, &[b"x".repeat(TEXT_MAX)]);
+    let many = [[references(500), b"z".repeat(192)].concat()];
+    case("8 KiB, 500 references to a book", Kind::Book, &many);
+    case("8 KiB, 500 references to a block", Kind::Block, &many);
+    case("60 nested defaults", Kind::Book, &[nested(60)]);
+    case("`${` 4,096 times", Kind::Book, &[b"${".repeat(4096)]);
+    let short: Vec<_> = (0..200)
+        .map(|i| format!("value {i} of ${{C}}").into_bytes())
+        .collect();
+    case("200 short texts, a book", Kind::Book, &short);
+    case("200 short texts, a block", Kind::Block, &short);
+    let secrets = numbered(64);
+    let texts: Vec<_> = secrets
+        .pairs
+        .iter()
+        .map(|(name, _)| format!("${{{name}}}").into_bytes())
+        .collect();
     let said = [b"z".repeat(8000), b" secret value 07 ".to_vec()].concat();
-    line("message of 8 KiB, 64 pairs", message(&secrets, &texts, &said));
+    line(
+        "message of 8 KiB, 64 pairs",
+        message(&secrets, &texts, &said),
+    );
 
     println!();
     println!("| text, µs | | 1 KiB | 2 KiB | 4 KiB | 8 KiB |");
     println!("|---|---|---|---|---|---|");
-    growth("without `$`", block, |n| b"x".repeat(n));
-    growth("a reference each 16 bytes", block, |n| references(n / 16));
-    growth("nested defaults", block, |n| nested((n - 4) / 6));
-    growth("`${` again and again", block, |n| b"${".repeat(n / 2));
+    growth("without `$`", &properties, |n| b"x".repeat(n));
+    growth("a reference each 16 bytes", &properties, |n| {
+        references(n / 16)
+    });
+    growth("nested defaults", &properties, |n| nested((n - 4) / 6));
+    growth("`${` again and again", &properties, |n| b"${".repeat(n / 2));
+
+    println!();
+    println!("| one reference, µs | | 4 names | 16 names | 64 names |");
+    println!("|---|---|---|---|---|");
+    lookups("the last name of a book", Kind::Book);
+    lookups("the last name of a block", Kind::Block);
 }
