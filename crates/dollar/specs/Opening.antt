@@ -1,5 +1,5 @@
 -- What opening a session comes to.
-use Rattle.std.specs.Prelude.{◌≡◌, ◌≢◌, ℕ, true, cond, ◌==◌, List, Some, None, Ok, Err, Option, Result}
+use Rattle.std.specs.Prelude.{◌≡◌, ◌≢◌, ℕ, true, List, Some, None, Ok, Err, Option, Result}
 use Rattle.source.specs.declared.error.SourceError.{SourceError}
 use Rattle.names.specs.declared.PropertySyntax.{PropertySyntax}
 use Rattle.stem.specs.Stems.{stem_lawful, stem_verdict}
@@ -9,34 +9,44 @@ use Rattle.tables.specs.Books.{book_format}
 use Rattle.tables.specs.Meaning.{Tells}
 use Rattle.tables.specs.Rows.{rows}
 use Rattle.dollar.specs.Held.{closed, session_of, source_means, syntax_numbered}
-use Rattle.dollar.specs.Outcomes.{bad_session, checked_as, source_refused}
+use Rattle.dollar.specs.Outcomes.{bad_session, numbered, source_refused}
 use Rattle.dollar.specs.Tables.{kind_numbered, kind_verdict, table_means}
+use Rattle.dollar.specs.declared.opening.OpenError.{OpenError}
+use Rattle.dollar.specs.declared.opening.OpenError.TheVariants.{Unknown, Unlawful}
 use Rattle.dollar.specs.declared.outcome.DollarOutcome.{DollarOutcome}
 use Rattle.dollar.specs.declared.sessions.DollarSession.{DollarSession}
 use Rattle.dollar.specs.declared.table.TableKind.{TableKind}
 use Rattle.dollar.specs.declared.table.TableKind.TheVariants.{Empty, Book, Block}
 
 -- the check of a stem, where that of the table has passed
-abbrev pub stem_next : Result (Unit {0}) SourceError → (stem : List ℕ) → DollarOutcome
-stem_next (Ok u) stem = checked_as (stem_verdict stem)
-stem_next (Err e) stem = source_refused e
+abbrev pub stem_next : Result (Unit {0}) SourceError → Result (Unit {0}) SourceError → Result (Unit {0}) OpenError
+stem_next (Err e) v = Err (Unlawful e)
+stem_next (Ok u) (Err e) = Err (Unlawful e)
+stem_next (Ok u) (Ok w) = Ok tt
 
-abbrev pub known_told : Option TableKind → Option PropertySyntax → (table stem : List ℕ) → DollarOutcome
-known_told None s table stem = bad_session
-known_told (Some kind) None table stem = bad_session
-known_told (Some kind) (Some s) table stem = stem_next (kind_verdict kind table) stem
+abbrev pub known_checked : Option TableKind → Option PropertySyntax → (table stem : List ℕ) → Result (Unit {0}) OpenError
+known_checked None s table stem = Err Unknown
+known_checked (Some kind) None table stem = Err Unknown
+known_checked (Some kind) (Some s) table stem = stem_next (kind_verdict kind table) (stem_verdict stem)
 
--- The numbers of the kind and the syntax are looked at first, then the table, then the stem.
-abbrev pub open_told : (kind syntax : ℕ) → (table stem : List ℕ) → DollarOutcome
-open_told kind syntax table stem = known_told (kind_numbered kind) (syntax_numbered syntax) table stem
+-- Whether a session may be opened: the numbers of the kind and the syntax are looked at first, then the table, then the stem.
+abbrev pub open_checked : (kind syntax : ℕ) → (table stem : List ℕ) → Result (Unit {0}) OpenError
+open_checked kind syntax table stem = known_checked (kind_numbered kind) (syntax_numbered syntax) table stem
 
-abbrev pub fresh : (kind syntax depth work : ℕ) → DollarSession
-fresh kind syntax depth work =
-    record { table_kind = kind; syntax = syntax; max_depth = depth; max_work = work; total = 0; breach = 0; breach_reached = 0; breach_limit = 0 }
+abbrev pub open_refused : OpenError → DollarOutcome
+open_refused Unknown = bad_session
+open_refused (Unlawful e) = source_refused e
+
+-- the outcome
+abbrev pub open_told : Result (Unit {0}) OpenError → DollarOutcome
+open_told (Ok u) = numbered 0
+open_told (Err e) = open_refused e
 
 -- The session after that: no work done and no limit passed; none where the opening is refused.
-abbrev pub opened : DollarOutcome → (kind syntax depth work : ℕ) → DollarSession
-opened told kind syntax depth work = cond (told.refusal == 0) (fresh kind syntax depth work) closed
+abbrev pub opened : Result (Unit {0}) OpenError → (kind syntax depth work : ℕ) → DollarSession
+opened (Ok u) kind syntax depth work =
+    record { table_kind = kind; syntax = syntax; max_depth = depth; max_work = work; total = 0; breach = 0; breach_reached = 0; breach_limit = 0 }
+opened (Err e) kind syntax depth work = closed
 
 -- A lawful table is read so that it tells its rows.
 abbrev pub RowsTold : TableKind → List ℕ → Type 0

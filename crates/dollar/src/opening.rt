@@ -1,14 +1,43 @@
 ghost use Rattle.std.specs.Prelude.{◌≡◌};
-ghost use Rattle.dollar.specs.Opening.{Opens, open_told, opened};
+ghost use Rattle.dollar.specs.Opening.{Opens, open_checked, open_refused, open_told, opened};
+ghost use Rattle.dollar.specs.declared.opening.OpenError.TheVariants.{Unlawful};
 ghost use Rattle.dollar.specs.Tables.{kind_verdict};
 
-use crate::outcome::{DollarOutcome, checked};
+use crate::outcome::DollarOutcome;
 use crate::sessions::{DollarSession, syntax_numbered};
 use crate::table::TableKind;
 use source::error::SourceError;
 use stem::check_stem;
 use tables::block::check_block;
 use tables::book::check_book;
+
+// Why no session is opened.
+#[derive(Clone, Copy, PartialEq, Eq, Debug)]
+enum OpenError {
+    // The kind or the syntax has no such number.
+    Unknown,
+    // The table or the stem is unlawful.
+    Unlawful(SourceError),
+}
+
+impl From<SourceError> for OpenError {
+    ghost from_gives = { λ e r. r ≡ Unlawful e };
+
+    fn from(error: SourceError) -> Self {
+        OpenError::Unlawful(error)
+    }
+}
+
+impl From<OpenError> for DollarOutcome {
+    ghost from_gives = { λ e r. r ≡ open_refused e };
+
+    fn from(error: OpenError) -> Self {
+        match error {
+            OpenError::Unknown => DollarOutcome::bad_session(),
+            OpenError::Unlawful(error) => DollarOutcome::from(error),
+        }
+    }
+}
 
 // Whether the bytes are a lawful table of the kind.
 fn check_table(kind: TableKind, table: &[u8]) -> Result<(), SourceError>
@@ -21,31 +50,30 @@ fn check_table(kind: TableKind, table: &[u8]) -> Result<(), SourceError>
     }
 }
 
-// What opening a session comes to: the numbers of the kind and the syntax first, then the table, then the stem.
-fn check_open(table_kind: u32, syntax: u32, table: &[u8], stem: &[u8]) -> DollarOutcome
-    ensures { result ≡ open_told table_kind syntax table.now stem.now }
+// The numbers of the kind and the syntax first, then the table, then the stem.
+fn check_open(table_kind: u32, syntax: u32, table: &[u8], stem: &[u8]) -> Result<(), OpenError>
+    ensures { result ≡ open_checked table_kind syntax table.now stem.now }
 {
     let (Some(kind), Some(_)) = (TableKind::numbered(table_kind), syntax_numbered(syntax)) else {
-        return DollarOutcome::bad_session();
+        return Err(OpenError::Unknown);
     };
-    if let Err(error) = check_table(kind, table) {
-        return DollarOutcome::from(error);
-    }
-    checked(check_stem(stem))
+    check_table(kind, table)?;
+    check_stem(stem)?;
+    Ok(())
 }
 
 // The session that an opening leaves.
 fn opened(
-    outcome: DollarOutcome,
+    checked: Result<(), OpenError>,
     table_kind: u32,
     syntax: u32,
     max_depth: usize,
     max_work: usize,
 ) -> DollarSession
-    ensures { result ≡ opened outcome table_kind syntax max_depth max_work }
+    ensures { result ≡ opened checked table_kind syntax max_depth max_work }
 {
     let closed = DollarSession::closed();
-    if outcome.refusal != 0 {
+    if checked.is_err() {
         return closed;
     }
     DollarSession {
@@ -54,6 +82,16 @@ fn opened(
         max_depth,
         max_work,
         ..closed
+    }
+}
+
+// The outcome of an opening.
+fn told_open(checked: Result<(), OpenError>) -> DollarOutcome
+    ensures { result ≡ open_told checked }
+{
+    match checked {
+        Ok(()) => DollarOutcome::numbered(0),
+        Err(error) => DollarOutcome::from(error),
     }
 }
 
@@ -69,11 +107,11 @@ pub extern "C" fn dollar_open(
     table: &[u8],
     stem: &[u8],
 ) -> DollarOutcome
-    ensures outcome { result ≡ open_told table_kind syntax table.now stem.now }
-    ensures session { session.new ≡ opened (open_told table_kind syntax table.now stem.now) table_kind syntax max_depth max_work }
+    ensures outcome { result ≡ open_told (open_checked table_kind syntax table.now stem.now) }
+    ensures session { session.new ≡ opened (open_checked table_kind syntax table.now stem.now) table_kind syntax max_depth max_work }
     ensures opens { Opens table_kind syntax max_depth max_work table.now stem.now result session.new }
 {
-    let outcome = check_open(table_kind, syntax, table, stem);
-    *session = opened(outcome, table_kind, syntax, max_depth, max_work);
-    outcome
+    let checked = check_open(table_kind, syntax, table, stem);
+    *session = opened(checked, table_kind, syntax, max_depth, max_work);
+    told_open(checked)
 }
