@@ -20,11 +20,11 @@
 extern "C" {
 #endif
 
-/* What the bytes of a table are. */
+/* What the bytes of a table are; docs/SOURCES.md has both formats byte by byte. */
 enum dollar_table_kind {
     DOLLAR_EMPTY = 1, /* no table: nothing is set */
-    DOLLAR_BOOK = 2,  /* records of 256 bytes */
-    DOLLAR_BLOCK = 3  /* entries NAME=value, each with a zero byte behind it */
+    DOLLAR_BOOK = 2,  /* records of 256 bytes, at most 256 of them */
+    DOLLAR_BLOCK = 3  /* entries NAME=value, each with a zero byte behind it, at most 16384 bytes */
 };
 
 /* How references are written. */
@@ -51,7 +51,7 @@ enum dollar_refusal {
     DOLLAR_BAD_PAIRS = 12,           /* the pair memory is not the one that the marks belong to */
     DOLLAR_BAD_BOOK = 13,            /* bad_record: the number of the first bad record; 256 where the book is too long */
     DOLLAR_BAD_BLOCK = 14,           /* offset: where the first bad entry starts; 16384 where the block is too long */
-    DOLLAR_BAD_STEM = 15,
+    DOLLAR_BAD_STEM = 15,            /* the stem has more than 32 bytes, or is no UTF-8 */
     DOLLAR_BAD_SESSION = 100         /* the session is none: opening it was refused, or its numbers were changed */
 };
 
@@ -91,7 +91,9 @@ typedef struct dollar_frame {
 
 /* Where a pair of a text and its result lies in the pair bytes. */
 typedef struct dollar_pair {
-    size_t at, text, result;
+    size_t at;     /* where the text starts */
+    size_t text;   /* how long it is */
+    size_t result; /* how long the result is, which stands behind it */
 } dollar_pair;
 
 /* What a call came to. A field that says nothing of this outcome is 0. */
@@ -122,7 +124,10 @@ dollar_outcome dollar_check_block(const uint8_t *block, size_t block_len);
 dollar_outcome dollar_check_stem(const uint8_t *stem, size_t stem_len);
 
 /*
- * Opens a session: no work done, no limit passed. Reads table and stem, writes the session. An empty stem is none.
+ * Opens a session: no work done, no limit passed. Reads table and stem, writes the session.
+ *   max_depth  how deep references may nest: `${A:-${B}}` has depth 1; at 0 none may
+ *   max_work   how often the session may look at a byte, over all of its calls; the total is never set back, so open one for each file
+ *   stem       is put before each name in a text: with the stem `app.`, `${PASS}` asks the table for `app.PASS`; an empty one is none
  * Refuses a kind or a syntax of another number (100), then an unlawful table (13, 14), then an unlawful stem (15). After a refusal the
  * session is all zero, and each later call refuses it (100). The session keeps no pointer: table and stem are lent anew to each call.
  */
@@ -147,10 +152,12 @@ dollar_outcome dollar_value(dollar_session *session, const uint8_t *table, size_
 /*
  * Redactions: what may be shown of a message, a value or an identifier, by the pairs of the innermost open scope. Each reads its text, its
  * fallback, the marks, the pair records and the pair bytes, and writes the whole output area as above.
- *   dollar_message     each result of a pair in it gives way to the text of the pair; a fixed text stands for it where that cannot be
+ *   dollar_message     a result of a pair in it gives way to the text of the pair, longest results first; where it has none, or one more
+ *                      than once, a fixed text of 33 bytes stands for all of it
  *   dollar_shown_value the same with a fallback of the caller's
  *   dollar_identifier  the text of the first pair whose result it is, or the fallback
- * Refuses 1, 2, 12, and 10 where the output area is too short.
+ * With no pair in the scope each stays as it is. Refuses 1, 2, 12, and 10 where the output area is too short for the new text, for one on
+ * the way to it, or for the fallback.
  */
 dollar_outcome dollar_message(const uint8_t *text, size_t text_len, const dollar_marks *marks, const dollar_pair *records,
                               size_t records_len, const uint8_t *bytes, size_t bytes_len, uint8_t *area, size_t area_len);

@@ -263,7 +263,7 @@ impl<'a> Session<'a> {
         self.read(&outcome, text)
     }
 
-    /// A message without the values that this scope has put into texts.
+    /// A message with the texts of this scope's pairs in the place of their results.
     pub fn message<'t>(&'t mut self, text: &'t [u8]) -> Result<&'t [u8], Refusal<'t>> {
         let lent = &mut self.lent;
         // SAFETY: as in `value`.
