@@ -19,6 +19,8 @@ fn refuse_session(area: &mut [u8]) -> DollarOutcome
     DollarOutcome::bad_session()
 }
 
+// The lent memories stay parameters of each call: a struct of them would hold pointers that C could leave behind.
+
 // The key with its references replaced: refusals 1 to 12, and 100 where the session is none.
 #[unsafe(no_mangle)]
 pub extern "C" fn dollar_key(

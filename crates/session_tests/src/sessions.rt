@@ -135,6 +135,30 @@ fn breach_is_kept(rt: HostRuntime) {
     assert_eq!(rt; session.total_work(), 21);
 }
 
+// A session is taken up where it was left: its total goes on, and its breach stays.
+#[test]
+fn session_is_taken_up(rt: HostRuntime) {
+    let left = BudgetBreach::PropertyExpansionDepth(1, 0);
+    let mut session = PropertyInterpolation::new(Empty, PropertySyntax::Braced, 0, 20)
+        .resume(17, Some(left));
+    let mut frames = [ExpansionFrame::EMPTY; 1];
+    let mut marks = RedactionMarks::new();
+    let answer = session.interpolate_value(
+        b"abcd",
+        &mut marks,
+        &mut frames,
+        &mut [],
+        &mut [],
+        &mut [],
+    );
+    assert_eq!(rt;
+        answer,
+        Err(ValueError(CallError::Property(PropertyError::ExpansionWorkLimitExceeded(21, 20))))
+    );
+    assert_eq!(rt; session.total_work(), 21);
+    assert_eq!(rt; session.breach(), Some(left));
+}
+
 // Frames lent as plain numbers: text that is walked in text, and a message with its name.
 #[test]
 fn frames_as_numbers(rt: HostRuntime) -> Result<(), Fail> {
