@@ -139,8 +139,10 @@ fn breach_is_kept(rt: HostRuntime) {
 #[test]
 fn session_is_taken_up(rt: HostRuntime) {
     let left = BudgetBreach::PropertyExpansionDepth(1, 0);
-    let mut session = PropertyInterpolation::new(Empty, PropertySyntax::Braced, 0, 20)
-        .resume(17, Some(left));
+    let mut session = PropertyInterpolation::new(Empty, PropertySyntax::Braced, 0, 20).resume(
+        17,
+        Some(left),
+    );
     let mut frames = [ExpansionFrame::EMPTY; 1];
     let mut marks = RedactionMarks::new();
     let answer = session.interpolate_value(
