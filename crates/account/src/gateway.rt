@@ -27,7 +27,7 @@ pub(crate) const MAX_DEPTH: usize = 4;
 const FALLBACK: &[u8] = b"(not shown)";
 
 // What a text is that the display is shown.
-#[derive(Clone, Copy, PartialEq, Eq, Debug)]
+#[derive(Clone, Copy)]
 pub(crate) enum Shown {
     Message,
     Value,

@@ -9,7 +9,7 @@ use std::{fmt, io};
 const AREA: usize = 24;
 
 // What a step counts; none where it has no such count.
-#[derive(Clone, Copy, PartialEq, Eq, Debug, Default)]
+#[derive(Clone, Copy, Default)]
 pub(crate) struct Counts {
     pub read: Option<usize>,
     pub asked: Option<usize>,

@@ -9,7 +9,7 @@ use session::error::CallError;
 use std::fmt;
 
 // The work of a call, and the session's total after it.
-#[derive(Clone, Copy, PartialEq, Eq, Debug)]
+#[derive(Clone, Copy)]
 pub(crate) struct Work {
     pub done: usize,
     pub total: usize,

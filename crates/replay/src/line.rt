@@ -12,7 +12,7 @@ pub(crate) enum OwnSource {
 }
 
 // How much memory the sessions from here on are lent.
-#[derive(Clone, Copy, PartialEq, Eq, Debug)]
+#[derive(Clone, Copy)]
 pub(crate) struct Sizes {
     pub output: usize,
     pub frames: usize,
@@ -21,7 +21,7 @@ pub(crate) struct Sizes {
 }
 
 // How a session is made.
-#[derive(Clone, Copy, PartialEq, Eq, Debug)]
+#[derive(Clone, Copy)]
 pub(crate) struct Settings {
     pub syntax: PropertySyntax,
     pub depth: usize,
