@@ -19,6 +19,7 @@ pub enum Syntax {
 }
 
 #[repr(C)]
+#[derive(Default)]
 struct SessionNumbers {
     table_kind: u32,
     syntax: u32,
@@ -175,18 +176,8 @@ impl<'a> Session<'a> {
             Table::Book(bytes) => (2, bytes),
             Table::Block(bytes) => (3, bytes),
         };
-        let numbers = SessionNumbers {
-            table_kind: 0,
-            syntax: 0,
-            max_depth: 0,
-            max_work: 0,
-            total: 0,
-            breach: 0,
-            breach_reached: 0,
-            breach_limit: 0,
-        };
         let mut session = Session {
-            numbers,
+            numbers: SessionNumbers::default(),
             table,
             stem,
             marks: Marks::default(),
