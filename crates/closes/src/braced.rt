@@ -1,5 +1,5 @@
-ghost use Rattle.std.specs.Prelude.{◌≡◌, ℕ, ◌<◌, List, length, replicate, IfSome};
-ghost use Rattle.budget.specs.Charges.{paid, spent};
+ghost use Rattle.std.specs.Prelude.{◌≡◌, ℕ, ◌<◌, ◌≤◌, ◌^◌, List, length, replicate, IfSome};
+ghost use Rattle.budget.specs.Charges.{charged, paid, spent};
 ghost use Rattle.closes.specs.Braced.{braced_close, braced_looks, opened};
 
 use crate::fronts::opens_inner;
@@ -53,12 +53,26 @@ fn looks(len: usize, close: Option<usize>) -> usize
     }
 }
 
+// How many of `len` bytes can be charged one by one, the first that is refused among them.
+fn reach(len: usize, work: WorkBudget) -> usize
+    ensures within { result ≤ len }
+    ensures over { result < len → (0 < result) × (work.limit < charged work.total result) }
+    ensures small { work.total < 2 ^ 64 }
+{
+    if work.limit == usize::MAX {
+        return len;
+    }
+    len.min(work.limit.saturating_sub(work.total) + 1)
+}
+
 // The close, once each byte up to it is charged. The charges follow from its place, so that one step takes them all.
+// No byte is looked at behind the one whose charge is refused.
 pub fn find_balanced_close(body: &[u8], work: &mut WorkBudget) -> Result<Option<usize>, WorkFault>
     ensures says { result ≡ paid work.old (braced_looks body.now) (braced_close body.now) }
     ensures work { work.new ≡ spent work.old (braced_looks body.now) }
 {
-    let close = balanced_close(body);
-    work.charge_ones(looks(body.len(), close))?;
+    let reach = reach(body.len(), *work);
+    let close = balanced_close(&body[..reach]);
+    work.charge_ones(looks(reach, close))?;
     Ok(close)
 }
