@@ -1,1 +1,2 @@
 mod PlacesLaws
+mod WindowsLaws

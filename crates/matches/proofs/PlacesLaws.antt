@@ -19,7 +19,7 @@ bytes_eq_sym xs ys =
     same_from_decides _ _ (bytes_eq-Decides xs ys) (λ e. sym (back.0 e), λ e. back.1 (sym e))
 
 -- a needle that has a byte stands at the front where the part there is the needle
-starts_is : (n bs : List ℕ) → 0 < length n → starts n bs ≡ bytes_eq (take (length n) bs) n
+pub starts_is : (n bs : List ℕ) → 0 < length n → starts n bs ≡ bytes_eq (take (length n) bs) n
 starts_is n bs some = ap (λ b. b && bytes_eq n (take (length n) bs)) (lt-ltb 0 (length n) some) ∙ bytes_eq_sym n (take (length n) bs)
 
 module _ (n : List ℕ) (some : 0 < length n) where
@@ -97,6 +97,10 @@ module _ (n : List ℕ) (some : 0 < length n) where
   count_on text at e =
       let k : at - 0 + length n ≡ at + length n = omega arith in
       (count_more text 0 at e).1 ∙ ap (λ m. suc (length (places n (drop m text)))) k
+
+pub count_none : (ps : List ℕ) → slice_get ps 0 ≡ None → length ps ≡ 0
+count_none [] e = refl
+count_none (p ∷ ps) e = absurd (cc)
 
 -- how often it stands there, by the place of the first match and what stands behind it
 abbrev by_next : ℕ → Option ℕ → Matches
