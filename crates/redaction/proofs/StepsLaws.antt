@@ -1,14 +1,11 @@
 -- Steps of a redaction, and what is left of them. Assumes nothing.
-use Rattle.std.proofs.Common.{◌≡◌, ℕ, zero, suc, ◌+◌, ◌<◌, Bool, true, false, cond, List, [], ◌∷◌, ◌++◌, length, take, drop, Option, None, Some, Result, Err, sym, refl, ap, ◌∙◌, subst, arith}
+use Rattle.std.proofs.Common.{◌≡◌, ℕ, zero, suc, ◌+◌, ◌<◌, Bool, true, false, cond, ◌||◌, if◌then◌else◌, List, [], ◌∷◌, ◌++◌, length, take, drop, Result, Err, sym, refl, ap, ◌∙◌, subst, arith}
 use Rattle.std.proofs.lemmas.Bool.{cond-true, cond-false, eq-eqb, ne_eqb}
-use Rattle.pairs.specs.Pairs.{Pair, has}
+use Rattle.pairs.specs.Pairs.{Pair, has, same_pair}
 use Rattle.pairs.specs.Sizes.{of_size, size}
 use Rattle.pairs.proofs.News.{news}
-use Rattle.std.specs.List.{slice_get}
-use Rattle.matches.specs.Places.{places}
-use Rattle.redaction.specs.Drafts.{Kept, ending, given_up, going_on, standing, state_of, text_in}
-use Rattle.redaction.specs.Redactions.{State, step, steps, turn}
-use Rattle.redaction.specs.Redactions.State.{going}
+use Rattle.redaction.specs.Drafts.{Kept, ending, given_up}
+use Rattle.redaction.specs.Redactions.{State, step, steps}
 use Rattle.redaction.specs.declared.draft.Draft.{Draft}
 use Rattle.redaction.specs.declared.draft.Unmade.{Unmade}
 use Rattle.redaction.specs.declared.draft.Unmade.TheVariants.{Often, TooShort}
@@ -58,22 +55,20 @@ module _ (n k : ℕ) (seen : List Pair) (p : Pair) (rest : List Pair) where
   pub left_taken : (s : State) → false ≡ has seen p → size p ≡ k → steps n s (of_size k (news seen (p ∷ rest))) ≡ steps n (step n s p) (of_size k (news (seen ++ (p ∷ [])) rest))
   left_taken s e l = ap (λ q. steps n s (of_size k q)) (cond-false _ _ _ (sym e)) ∙ ap (steps n s) (cond-true _ _ _ (eq-eqb (size p) k l))
 
-  -- a pair for which nothing is done, whether it is a repeat or not
-  pub left_absent : (s : State) → step n s p ≡ s → size p ≡ k → steps n s (of_size k (news seen (p ∷ rest))) ≡ steps n s (of_size k (news (seen ++ (p ∷ [])) rest))
-  left_absent s e l = go (has seen p) refl
+  -- the next pair with k bytes: nothing is done for a repeat
+  pub left_next : (s : State) → size p ≡ k → steps n s (of_size k (news seen (p ∷ rest))) ≡ steps n (if has seen p then s else step n s p) (of_size k (news (seen ++ (p ∷ [])) rest))
+  left_next s l = go (has seen p) refl
     where
-      go : (b : Bool) → has seen p ≡ b → steps n s (of_size k (news seen (p ∷ rest))) ≡ steps n s (of_size k (news (seen ++ (p ∷ [])) rest))
+      go : (b : Bool) → has seen p ≡ b → steps n s (of_size k (news seen (p ∷ rest))) ≡ steps n (if b then s else step n s p) (of_size k (news (seen ++ (p ∷ [])) rest))
       go true h = left_repeat s (sym h)
-      go false h = left_taken s (sym h) l ∙ ap (λ t. steps n t (of_size k (news (seen ++ (p ∷ [])) rest))) e
+      go false h = left_taken s (sym h) l
 
--- where its result stands nowhere, nothing is done for a pair
-nowhere : (n : ℕ) (done : Bool) (text : List ℕ) (p : Pair) (ps : List ℕ) → slice_get ps 0 ≡ None → turn n done text p ps ≡ going done text
-nowhere n done text p [] e = refl
-nowhere n done text p (at ∷ more) e = absurd (cc)
-
-pub absent : (d : Draft) (p : Pair) (n : ℕ) → slice_get (places p.1 (standing d)) 0 ≡ None → step n (state_of d) p ≡ state_of d
-absent d p n e = go d.made e
+-- a pair that is one of the first is one of all
+pub has_first : (m : ℕ) (ps : List Pair) (p : Pair) → true ≡ has (take m ps) p → true ≡ has ps p
+has_first zero ps p e = absurd (cc)
+has_first (suc m) [] p e = e
+has_first (suc m) (q ∷ ps) p e = go (same_pair q p) (has_first m ps p) e
   where
-    go : (made : Option ℕ) → slice_get (places p.1 (text_in d.given.now d.area.now made)) 0 ≡ None → step n (going_on d.given.now d.area.now made) p ≡ going_on d.given.now d.area.now made
-    go None e = nowhere n false d.given.now p _ e
-    go (Some len) e = nowhere n true (take len d.area.now) p _ e
+    go : (b : Bool) → (true ≡ has (take m ps) p → true ≡ has ps p) → true ≡ (b || has (take m ps) p) → true ≡ (b || has ps p)
+    go true more e = refl
+    go false more e = more e

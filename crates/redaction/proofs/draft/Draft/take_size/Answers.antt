@@ -1,4 +1,4 @@
-use Rattle.std.proofs.Common.{◌≡◌, ℕ, ◌+◌, false, List, [], ◌∷◌, ◌++◌, length, take, refl, sym, ap, ◌∙◌, subst, arith}
+use Rattle.std.proofs.Common.{◌≡◌, ℕ, ◌+◌, List, [], ◌∷◌, ◌++◌, length, take, if◌then◌else◌, sym, ap, ◌∙◌, subst, arith}
 use Rattle.std.proofs.lemmas.Result.{err_from_is_err_and}
 use Rattle.pairs.specs.Lists.{listed, pairs_left}
 use Rattle.pairs.specs.Pairs.{Pair, has}
@@ -9,9 +9,9 @@ use Rattle.pairs.proofs.News.{news}
 use Rattle.redaction.specs.Drafts.{Kept, given_up, state_of}
 use Rattle.redaction.specs.Redactions.{State, step, steps}
 use Rattle.redaction.specs.declared.draft.Unmade.{Unmade}
-use Rattle.redaction.proofs.StepsLaws.{front_more, kept_by, left_absent, left_other, left_repeat, left_taken, passed_up, steps_given_up}
+use Rattle.redaction.proofs.StepsLaws.{front_more, kept_by, left_next, left_other, passed_up, steps_given_up}
 use Rattle.redaction.proofs.draft.Draft.take_size.Goals as goal
-use Rattle.redaction.proofs.draft.Draft.take_size.Goals.{then-pair-size+then-holds+then-not-has+in_ok-take_pair, else-pair-size, else-pair-size-via-then-pair-size+then-holds+else-not-has, else-pair-size-via-then-pair-size+else-holds, else-pair-size-via-else-pair-size}
+use Rattle.redaction.proofs.draft.Draft.take_size.Goals.{then-pair-size+in_ok-take_pair, else-pair-size}
 
 pub returns-in_err-take_pair-clause-says : goal.returns-in_err-take_pair-clause-says
 returns-in_err-take_pair-clause-says c =
@@ -24,13 +24,14 @@ returns-in_err-take_pair-clause-says c =
     let was : State = state_of c.loop-i.self in
     let err = err_from_is_err_and c.from_residual.result c.from_residual.ensures.1 in
     let e : Unmade = c.in_err-take_pair.field-0.0 in
-    let new : false ≡ has seen p = c.if-not-has.ensures ∙ ap (λ qs. has qs p) c.first.ensures in
-    let taken : given_up e ≡ step n was p = c.in_err-take_pair.ensures.says ∙ ap (λ m. step m was p) c.loop-i.invariant.kept.room in
+    let taken : given_up e ≡ (if has seen p then was else step n was p) =
+    c.in_err-take_pair.ensures.says ∙ ap (λ qs. if has qs p then was else step (length c.loop-i.self.area.now) was p) c.first.ensures
+    ∙ ap (λ m. if has seen p then was else step m was p) c.loop-i.invariant.kept.room in
     let left : List Pair = of_size k (news (seen ++ (p ∷ [])) rest) in
     passed_up c.take_pair.new.self c.from_residual.result e err.0 err.1 err.2
     ∙ sym (steps_given_up n e left)
     ∙ ap (λ s. steps n s left) taken
-    ∙ sym (left_taken n k seen p rest was new c.if-pair-size.true)
+    ∙ sym (left_next n k seen p rest was c.if-pair-size.true)
     ∙ sym (ap (λ qs. steps n was (of_size k (news seen qs))) c.in-Some.ensures.steps)
     ∙ c.loop-i.invariant.taken
     ∙ ap (λ qs. steps n (state_of c.args.self.now) (of_size k qs)) (sym (firsts_news ps))
@@ -53,22 +54,21 @@ loop-i-preserved c =
     let both : (steps n (state_of c.if-pair-size.self) (of_size k (news (take (c.loop-i.i + 1) ps) rest)) ≡ steps n (state_of c.args.self.now) (of_size k (news [] ps)))
     × Kept c.args.self.now c.if-pair-size.self =
     elim c.if-pair-size.branch [
-      | then-pair-size+then-holds+then-not-has+in_ok-take_pair w ↦
-          let now : state_of c.if-pair-size.self ≡ step n was p = ap state_of w.self-is ∙ w.in_ok-take_pair.ensures.says ∙ ap (λ m. step m was p) c.loop-i.invariant.kept.room in
-          let new : false ≡ has seen p = w.if-not-has.ensures ∙ ap (λ qs. has qs p) w.first.ensures in (
-            next (state_of c.if-pair-size.self) ∙ ap (λ s. steps n s (of_size k (news (seen ++ (p ∷ [])) rest))) now ∙ sym (left_taken n k seen p rest was new w.if-pair-size.true) ∙ begun,
+      | then-pair-size+in_ok-take_pair w ↦
+          let now : state_of c.if-pair-size.self ≡ (if has seen p then was else step n was p) =
+          ap state_of w.self-is ∙ w.in_ok-take_pair.ensures.says
+          ∙ ap (λ qs. if has qs p then was else step (length c.loop-i.self.area.now) was p) w.first.ensures
+          ∙ ap (λ m. if has seen p then was else step m was p) c.loop-i.invariant.kept.room in (
+            next (state_of c.if-pair-size.self) ∙ ap (λ s. steps n s (of_size k (news (seen ++ (p ∷ [])) rest))) now ∙ sym (left_next n k seen p rest was w.if-pair-size.true) ∙ begun,
             kept_by (sym w.self-is) c.loop-i.invariant.kept w.take_pair.ensures.keeps,
           )
-      | else-pair-size w ↦
-          let passed : steps n was (of_size k (news seen (p ∷ rest))) ≡ steps n was (of_size k (news (seen ++ (p ∷ [])) rest)) =
-          elim w.else-pair-size.branch [
-            | else-pair-size-via-then-pair-size+then-holds+else-not-has v ↦ left_repeat n k seen p rest was (v.if-not-has.ensures ∙ ap (λ qs. has qs p) v.first.ensures)
-            | else-pair-size-via-then-pair-size+else-holds v ↦ left_absent n k seen p rest was (v.if-holds.ensures refl n) v.if-pair-size.true
-            | else-pair-size-via-else-pair-size v ↦ left_other n k seen p rest was v.if-pair-size.false
-          ] in (
-            next (state_of c.if-pair-size.self) ∙ ap (λ d. steps n (state_of d) (of_size k (news (seen ++ (p ∷ [])) rest))) w.self-is ∙ sym passed ∙ begun,
-            subst (Kept c.args.self.now) (sym w.self-is) c.loop-i.invariant.kept,
-          )
+      | else-pair-size w ↦ (
+        next (state_of c.if-pair-size.self)
+            ∙ ap (λ d. steps n (state_of d) (of_size k (news (seen ++ (p ∷ [])) rest))) w.self-is
+            ∙ sym (left_other n k seen p rest was w.if-pair-size.false)
+            ∙ begun,
+        subst (Kept c.args.self.now) (sym w.self-is) c.loop-i.invariant.kept,
+      )
     ] in
     record { rest = on.1; low = omega (arith, on.0); fits = c.loop-i.invariant.fits; taken = both.0; kept = both.1 }
 
