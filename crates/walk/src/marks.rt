@@ -3,7 +3,7 @@ ghost use Rattle.walk.specs.Frames.{marked_replaced, marked_shows};
 
 // Whether the text has a replacement, and whether a value that is not empty stands in the output.
 #[derive(Clone, Copy, PartialEq, Eq, Debug, Default)]
-pub(crate) struct Marks {
+pub struct Marks {
     pub changed: bool,
     pub shows: bool,
 }
