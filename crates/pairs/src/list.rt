@@ -1,4 +1,4 @@
-ghost use Rattle.std.specs.Prelude.{◌≡◌, length, take, drop, ◌==◌};
+ghost use Rattle.std.specs.Prelude.{◌≡◌, [], length, take, drop, slice_index_or, ◌==◌};
 ghost use Rattle.std.specs.Option.{option_map};
 ghost use Rattle.pairs.specs.Lists.{listed, pairs_left};
 ghost use Rattle.pairs.specs.Once.{EachOnce};
@@ -86,11 +86,45 @@ impl<'r, 'b> PairList<'r, 'b> {
         Pairs { rest: *self }
     }
 
+    // The text of the pair at i; empty where there is none.
+    pub fn text(&self, i: usize) -> &'b [u8]
+        ensures { result.now ≡ (slice_index_or (listed self.now) i ([], [])).0 }
+    {
+        let records = self.records;
+        if i < records.len() {
+            records[i].text_in(self.bytes)
+        } else {
+            &[]
+        }
+    }
+
+    // The result of the pair at i; empty where there is none.
+    pub fn result(&self, i: usize) -> &'b [u8]
+        ensures { result.now ≡ (slice_index_or (listed self.now) i ([], [])).1 }
+    {
+        let records = self.records;
+        if i < records.len() {
+            records[i].result_in(self.bytes)
+        } else {
+            &[]
+        }
+    }
+
     // Whether the pair is recorded.
     pub fn has(&self, pair: Pair) -> bool
         ensures { result ≡ has (listed self.now) (pair_read pair.entry) }
     {
         self.iter().any(|recorded| recorded == pair)
+    }
+
+    // Whether the pair at i is recorded before i too.
+    pub fn is_repeat(&self, i: usize) -> bool
+        ensures { result ≡ has (take i (listed self.now)) (slice_index_or (listed self.now) i ([], [])) }
+    {
+        self.first(i).has(Pair {
+            text: self.text(i),
+            result: self.result(i),
+        })
     }
 
     // The length of the longest result of at most `most` bytes, or 0: no Option, since a result of no bytes counts as none.

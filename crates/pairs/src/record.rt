@@ -50,6 +50,20 @@ impl PairRecord {
             result: part(bytes, middle, middle.saturating_add(self.result)),
         }
     }
+
+    // The text of the pair.
+    pub fn text_in(self, bytes: &[u8]) -> &[u8]
+        ensures { result.now ≡ (pair_of bytes.now self).0 }
+    {
+        self.pair_in(bytes).text
+    }
+
+    // The result of the pair.
+    pub fn result_in(self, bytes: &[u8]) -> &[u8]
+        ensures { result.now ≡ (pair_of bytes.now self).1 }
+    {
+        self.pair_in(bytes).result
+    }
 }
 
 // Whether each pair lies inside n bytes.
