@@ -1,5 +1,7 @@
 -- A layer over a source, whose names stand below behind a stem.
-use Rattle.std.specs.Prelude.{ℕ, ◌+◌, Bool, cond, ◌&&◌, List, ◌++◌, length, Some, None, Ok, Err, Option, Result, nat_le}
+use Rattle.std.specs.Prelude.{◌≡◌, ℕ, ◌+◌, ◌<◌, Bool, true, false, cond, ◌&&◌, List, ◌++◌, length, Some, None, Ok, Err, Option, Result, nat_le, refl}
+use Rattle.std.specs.Bool.{then_some}
+use Rattle.std.proofs.lemmas.Option.{none-some}
 use Rattle.source.specs.declared.error.SourceError.{SourceError}
 use Rattle.source.specs.declared.error.SourceError.TheVariants.{BadStem}
 use Rattle.text.specs.Texts.{well_formed}
@@ -21,3 +23,14 @@ under (Some stem) below name = below (stem ++ name)
 abbrev pub name_below : Option (List ℕ) → List ℕ → Option (List ℕ)
 name_below None name = None
 name_below (Some stem) name = cond (nat_le (length stem + length name) 63) (Some (stem ++ name)) None
+
+-- what is set in a layer is what was set below
+pub set_below : (b : Bool) (o : Option (List ℕ)) (v : List ℕ) → cond b o None ≡ Some v → o ≡ Some v
+set_below true o v e = e
+set_below false o v e = absurd (none-some v e)
+
+-- stem and name joined are too long for a name below
+pub too_long : (b : Bool) (stem name : List ℕ) (below : List ℕ → Option (List ℕ)) → ((n : List ℕ) → 63 < length n → below n ≡ None)
+    → 63 < length (stem ++ name) → under (then_some b stem) below name ≡ None
+too_long true stem name below long h = long (stem ++ name) h
+too_long false stem name below long h = refl
