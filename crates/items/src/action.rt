@@ -50,6 +50,7 @@ pub(crate) struct Named<'a> {
 
 impl<'a> Named<'a> {
     // Where the name stands in the call's text.
+    #[inline(always)]
     fn span(&self) -> Span
         ensures { result ≡ span self.now.from (length self.now.name.now) }
     {
@@ -60,6 +61,7 @@ impl<'a> Named<'a> {
     }
 
     // What a reference without an operator yields.
+    #[inline(always)]
     pub(crate) fn plain(&self, syntax: PropertySyntax) -> Result<Action<'a>, PropertyError>
         ensures says { (close : ℕ) → action_told close result ≡ acted (plain_act syntax (shape_by self.now.value) self.now.from self.now.name.now) }
         ensures yields { IfOk result (λ a. Yields self.now.name.now self.now.value 0 a) }
@@ -74,6 +76,7 @@ impl<'a> Named<'a> {
     }
 
     // What a reference in braces yields.
+    #[inline(always)]
     pub(crate) fn braced(
         &self,
         op: BraceOp<'a>,

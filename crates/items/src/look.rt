@@ -57,6 +57,7 @@ struct Place<'p, S: PropertySource> {
 
 impl<'p, S: PropertySource> Place<'p, S> {
     // What is done for what was found here.
+    #[inline(always)]
     fn action<'a>(&self, found: Found<'a>) -> Result<Action<'a>, PropertyError>
         requires { Held self.now.left found }
         ensures says { action_told (self.now.cursor + found_more found.entry) result ≡ acted (found_act (shapes (S.PropertySource.means self.now.source.now)) self.now.syntax self.now.cursor self.now.left found.entry) }
@@ -82,6 +83,7 @@ impl<'p, S: PropertySource> Place<'p, S> {
     }
 
     // A refusal of the text from here to the byte before `end`.
+    #[inline(always)]
     fn invalid(&self, end: usize) -> PropertyError
         ensures { result ≡ InvalidName (record { start = self.now.cursor; end = end }) }
     {
@@ -92,6 +94,7 @@ impl<'p, S: PropertySource> Place<'p, S> {
     }
 
     // The property with this name, which stands at `from`.
+    #[inline(always)]
     fn named<'a>(&self, name: &'a [u8], from: usize) -> Named<'a>
         requires { from + length name.now < 2 ^ 64 }
         ensures name { result.name.now ≡ name.now }
@@ -106,6 +109,7 @@ impl<'p, S: PropertySource> Place<'p, S> {
     }
 
     // Where reading goes on behind what was found here.
+    #[inline(always)]
     fn next(&self, found: Found<'_>) -> usize
         requires { Held self.now.left found }
         ensures { result ≡ self.now.cursor + 1 + found_more found.entry }

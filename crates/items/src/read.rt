@@ -22,6 +22,7 @@ pub(crate) enum Found<'a> {
 // What `byte` begins, with `behind` after it in the frame.
 // The bytes, the syntax and the budget stay three parameters here and below: each function hands the three on, and a struct of them would be taken apart at the first call of another crate.
 #[tactic(auto, unfolding(crate::specs::Items::item))]
+#[inline(always)]
 pub(crate) fn read_byte<'a>(
     byte: u8,
     behind: &'a [u8],
@@ -38,6 +39,7 @@ pub(crate) fn read_byte<'a>(
 }
 
 // What a `$` begins. The byte after it, where there is one, is charged too.
+#[inline(always)]
 fn read_dollar<'a>(
     behind: &'a [u8],
     syntax: PropertySyntax,
@@ -58,6 +60,7 @@ fn read_dollar<'a>(
 }
 
 // What a `$` begins, once both bytes are charged, where neither `$` nor `{` follows: a name may stand bare.
+#[inline(always)]
 fn read_bare<'a>(
     behind: &'a [u8],
     syntax: PropertySyntax,
